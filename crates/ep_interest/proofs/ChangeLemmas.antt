@@ -1,9 +1,9 @@
 -- What a closure leaves that is called at each registration, and what an arrival keeps.
-use Rattle.std.proofs.Common.{if◌then◌else◌, ◌≡◌, ◌∙◌, ◌<◌, ◌≤◌, ◌==◌, ◌&&◌, ◌||◌, ℕ, zero, suc, Bool, true, false, List, [], ◌∷◌, length, vec_capacity, None, Option, Some, MutBor, ap, cond, get_or, map, nat_lt, refl, subst, sym, unwrap_or, count_by}
+use Rattle.std.proofs.Common.{if◌then◌else◌, ◌≡◌, ◌∙◌, ◌<◌, ◌≤◌, ◌==◌, ◌&&◌, ◌||◌, ℕ, zero, suc, true, false, List, [], ◌∷◌, length, vec_capacity, None, Option, Some, ap, cond, get_or, map, nat_lt, refl, subst, sym, unwrap_or, count_by}
 use Rattle.std.proofs.lemmas.Option.{none-some}
 use Rattle.std.specs.List.{cons_option, filter_map, range_with_len}
 use Rattle.std.specs.Option.{option_map}
-use Rattle.slab.specs.Slab.{Slab, CalledAt}
+use Rattle.slab.specs.Slab.{Slab}
 use Rattle.ep_base.specs.declared.ids.DescId.{DescId}
 use Rattle.ep_base.specs.declared.mask.Mask.{Mask}
 use Rattle.ep_machine.specs.Bits.{asked}
@@ -16,7 +16,6 @@ use Rattle.ep_interest.specs.View.{HasRows, IsIndex, IsInterest, instance_of, ke
 use Rattle.ep_interest.specs.declared.interest.Interest.TheInside.{Inside}
 use Rattle.ep_interest.specs.Exclusive.{is_exclusive_slot}
 use Rattle.ep_interest.specs.Passes.{ArePassing}
-use Rattle.ep_interest.specs.Touched.{AreTouched, is_noted}
 use Rattle.ep_interest.specs.declared.entry.Entry.{Entry}
 use Rattle.ep_interest.specs.declared.passes.Passes.{Passes}
 use Rattle.ep_interest.proofs.GuardsLemmas.{count_changed}
@@ -77,12 +76,6 @@ module _ (f : Entry → Entry) (number : (x : Entry) → (f x).number ≡ x.numb
     live = λ q id e. let x = h.live q id e in (f x.0, get_changed slots id.0 ∙ ap (option_map f) x.1, same x.0 ∙ x.2);
   }
 
-  pub touched_changed : (slots : List (Option Entry)) (ns : List ℕ) → ((x : Entry) → (f x).instance ≡ x.instance) → ((x : Entry) → (f x).desc ≡ x.desc) → AreTouched slots ns → AreTouched (changed slots) ns
-  touched_changed slots ns i d h = record {
-    instance = λ k y e. let x = before slots k y e in ap (λ (z : Entry). is_noted ns z.instance.0) (sym x.2) ∙ (ap (λ (w : DescId). is_noted ns w.0) (i x.0) ∙ h.instance k x.0 x.1);
-    target = λ k y e. let x = before slots k y e in ap (λ (z : Entry). is_noted ns z.desc.0) (sym x.2) ∙ (ap (λ (w : DescId). is_noted ns w.0) (d x.0) ∙ h.target k x.0 x.1);
-  }
-
 -- what a registration is found by stays
 pub record Keeps (f : Entry → Entry) : Type 0 where
   pub number : (x : Entry) → (f x).number ≡ x.number
@@ -124,7 +117,6 @@ interest_changed k f slots passes keeps same passing room h =
     let all = in_order_changed f keeps.number old k.added in
     let d = rows_changed old (changed f keeps.number old) k.added f (keys_changed f keeps.number old) all keeps.number instance_of (λ x i. (keeps.instance x i).0) k.by_instance h.by_instance in
     let e = rows_changed old (changed f keeps.number old) k.added f (keys_changed f keeps.number old) all keeps.number target_of (λ x i. (keeps.target x i).0) k.by_target h.by_target in
-    let t = touched_changed f keeps.number old k.touched.numbers.keys keeps.instance keeps.target h.touched in
     record {
       numbered = subst (λ (xs : List (Option Entry)). NumberedBy xs k.added) (sym same) a;
       by_key = subst (λ (xs : List (Option Entry)). IsIndex key_of xs (hash.get same_key k.by_key)) (sym same) b;
@@ -132,6 +124,5 @@ interest_changed k f slots passes keeps same passing room h =
       by_target = subst (λ (xs : List (Option Entry)). HasRows target_of xs k.added k.by_target) (sym same) e;
       passing = passing;
       room = room;
-      touched = subst (λ (xs : List (Option Entry)). AreTouched xs k.touched.numbers.keys) (sym same) t;
       guards = h.guards ∙ (sym (count_changed f keeps.mask old) ∙ ap (count_by is_exclusive_slot) (sym same));
     }

@@ -4,14 +4,14 @@ use Rattle.std.proofs.lemmas.List.{get_or-set_other, get_or-set_same}
 use Rattle.std.proofs.lemmas.List.Sums.{length-filter, sum_by-cons, sum_by-set}
 use Rattle.std.specs.List.{cons_option, filter_map, range_with_len}
 use Rattle.std.specs.Option.{option_map}
+use Rattle.ep_facts.proofs.NatFacts.{below_or, same_or_not, same_test, test_apart}
 use Rattle.ep_machine.specs.Bits.{EXCLUSIVE, has_bit}
 use Rattle.ep_interest.specs.ByNumber.{NumberedBy, found_by, in_order}
 use Rattle.ep_interest.specs.Exclusive.{is_exclusive, is_exclusive_slot}
 use Rattle.ep_interest.specs.declared.entry.Entry.{Entry}
 use Rattle.ep_interest.proofs.InOrderLemmas.{not_later, rest_numbered}
-use Rattle.ep_interest.proofs.NumberLemmas.{below_or, same_or_not, test_apart, test_same}
 use Rattle.ep_interest.proofs.RangeLemmas.{same_on}
-use Rattle.ep_rings.proofs.CountLemmas.{count_alike}
+use Rattle.ep_interest.proofs.CountLemmas.{count_alike}
 
 abbrev pub one : Bool → ℕ
 one b = cond b 1 0
@@ -114,7 +114,7 @@ count_held (Some x ∷ slots) n num =
     let s = sum_by-cons (λ (o : Option Entry). cond (is_exclusive_slot o) 1 0) (Some x) slots in
     let a = num.above zero x refl in
     let b = num.below zero x refl in
-    let first : found_by (Some x ∷ slots) x.number ≡ Some x = rw (test_same x.number x.number refl) refl in
+    let first : found_by (Some x ∷ slots) x.number ≡ Some x = rw (same_test x.number x.number refl) refl in
     let m = one_found (found_by (Some x ∷ slots)) (found_by slots) x x.number first (not_later x slots n num) (λ m ne. rw (test_apart x.number m (λ e. ne (sym e))) refl) 1 n (omega (arith, a)) (omega (arith, b)) in
     omega (arith, r, s, m)
 

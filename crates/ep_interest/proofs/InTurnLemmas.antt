@@ -4,6 +4,8 @@ use Rattle.std.proofs.lemmas.Bool.{cases_Bool}
 use Rattle.std.proofs.lemmas.List.{get_or-set_other}
 use Rattle.std.specs.List.{cons_option, filter_map, range_with_len}
 use Rattle.std.specs.Option.{option_map}
+use Rattle.ep_facts.proofs.NatFacts.{same_or_not, same_test, test_apart}
+use Rattle.ep_facts.proofs.BoolFacts.{or_again}
 use Rattle.ep_base.specs.declared.ids.DescId.{DescId}
 use Rattle.ep_base.specs.declared.ids.EntryId.{EntryId}
 use Rattle.ep_base.specs.declared.mask.Mask.{Mask}
@@ -14,10 +16,10 @@ use Rattle.ep_interest.specs.InTurn.{AllHeld, Among, changed_at}
 use Rattle.ep_interest.specs.Registrations.{freshened_on, is_on, numbered, place_among, raised_on}
 use Rattle.ep_interest.specs.Rows.{row}
 use Rattle.ep_interest.specs.View.{IsInterest, number_in}
-use Rattle.ep_rings.specs.KeyWalk.{id_at}
+use Rattle.ep_rings.specs.KeyWalk.{entry_id}
 use Rattle.ep_interest.specs.declared.entry.Entry.{Entry}
 use Rattle.ep_interest.specs.declared.interest.Interest.TheInside.{Inside}
-use Rattle.ep_interest.proofs.NumberLemmas.{One, Option_cases, has, same_or_not, test_apart, test_same}
+use Rattle.ep_interest.proofs.NumberLemmas.{One, Option_cases, has}
 use Rattle.ep_interest.proofs.InOrderLemmas.{held, place_is}
 use Rattle.ep_interest.proofs.ListedLemmas.{ids_at}
 use Rattle.ep_interest.proofs.ReplaceLemmas.{replaced}
@@ -125,7 +127,7 @@ among_filter : (slots : List (Option Entry)) (p : Entry → Bool) (xs : List Ent
 among_filter slots p [] n x h t = absurd cc
 among_filter slots p (y ∷ ys) n x h t = elim (same_or_not y.number n) [
   | inl e ↦
-      let g = (let s = test_same y.number n e in rw s at h) in let same : y ≡ x = cc in
+      let g = (let s = same_test y.number n e in rw s at h) in let same : y ≡ x = cc in
       let u : p y ≡ true = ap p same ∙ t in
       rw u (inl (ap (λ (z : Entry). (id_in slots z).0) same))
   | inr ne ↦
@@ -168,16 +170,12 @@ module _ (desc : DescId) (bits : Mask) (event : ℕ) where
   once : (x : Entry) → is_on desc x ≡ true → raised_on desc bits event x ≡ change x
   once x t = rw t refl
 
-  fresh_twice : (b c : Bool) → (b || (b || c)) ≡ (b || c)
-  fresh_twice true c = refl
-  fresh_twice false c = refl
-
   event_twice : (b : Bool) (n : ℕ) → cond b event (cond b event n) ≡ cond b event n
   event_twice true n = refl
   event_twice false n = refl
 
   twice : (x : Entry) → change (change x) ≡ change x
-  twice x = λ i. record x { fresh = fresh_twice (brings x.mask.0 bits.0) x.fresh i; passes_in = event_twice (x.armed && nat_lt 0 (asked x.mask.0 bits.0)) x.passes_in i }
+  twice x = λ i. record x { fresh = or_again (brings x.mask.0 bits.0) x.fresh i; passes_in = event_twice (x.armed && nat_lt 0 (asked x.mask.0 bits.0)) x.passes_in i }
 
   pub raised_again : (x : Entry) → raised_on desc bits event (raised_on desc bits event x) ≡ raised_on desc bits event x
   raised_again x = elim (cases_Bool (is_on desc x)) [
@@ -207,5 +205,5 @@ pub held_on : (slots : List (Option Entry)) (n : ℕ) → NumberedBy slots n →
 held_on slots n num desc ids e = subst (λ (js : List EntryId). AllHeld slots js) (sym e) (held_filter slots (is_on desc) (in_order slots n) (held_given slots num.one (range_with_len 1 n)))
 
 -- what the row of a description has are the keys of the registrations on it
-pub watchers_are : {A : Type 0} (k : Inside A) → IsInterest k → (desc : DescId) → map id_at (row k.by_target desc.0) ≡ map (id_in k.slots.slots) (filter (is_on desc) (in_order k.slots.slots k.added))
-watchers_are k i desc = ap (map id_at) (i.by_target.rows desc.0) ∙ ids_at k.slots.slots (filter (is_on desc) (in_order k.slots.slots k.added))
+pub watchers_are : {A : Type 0} (k : Inside A) → IsInterest k → (desc : DescId) → map entry_id (row k.by_target desc.0) ≡ map (id_in k.slots.slots) (filter (is_on desc) (in_order k.slots.slots k.added))
+watchers_are k i desc = ap (map entry_id) (i.by_target.rows desc.0) ∙ ids_at k.slots.slots (filter (is_on desc) (in_order k.slots.slots k.added))

@@ -1,17 +1,18 @@
 -- The keys of one owner's registrations.
 use Rattle.std.proofs.Common.{◌≡◌, ◌≢◌, ℕ, ◌==◌, ◌+◌, ◌≤◌, suc, zero, Bool, true, false, not, All, Contains, List, [], ◌∷◌, ◌++◌, length, map, filter, count_by, get_or, nat_eq, Option, Some, None, is_some, refl, ap, sym, subst, ◌∙◌, arith, inl, inr, if◌then◌else◌}
 use Rattle.std.proofs.lemmas.Bool.{cases_Bool}
-use Rattle.std.proofs.lemmas.List.{length-map, map-append}
+use Rattle.std.proofs.lemmas.List.{append-nil, length-map, map-append}
 use Rattle.std.proofs.lemmas.List.Elements.{All-filter, All-head, All-map, All-tail, All-weaker, filter-append}
 use Rattle.std.proofs.lemmas.List.Sums.{count_by-le-length, length-filter}
 use Rattle.std.specs.List.{range_with_len}
+use Rattle.ep_facts.proofs.NatFacts.{same_or_not, same_test, test_apart}
 use Rattle.ep_interest.specs.ByNumber.{NumberedBy, found_by, in_order}
 use Rattle.ep_interest.specs.Registrations.{numbered, place_among}
 use Rattle.ep_interest.specs.Rows.{IsRows, row}
 use Rattle.ep_interest.specs.View.{HasRows, is_owned, key_in, keys_with, number_in}
 use Rattle.ep_interest.specs.declared.entry.Entry.{Entry}
 use Rattle.ep_interest.specs.declared.rows.Rows.{Rows}
-use Rattle.ep_interest.proofs.NumberLemmas.{has, same_or_not, test_apart, test_same}
+use Rattle.ep_interest.proofs.NumberLemmas.{has}
 use Rattle.ep_interest.proofs.InOrderLemmas.{held, length_held, place_is}
 use Rattle.ep_interest.proofs.KeyLemmas.{all_given}
 use Rattle.ep_interest.proofs.AddLemmas.{Inserted, entries_more, numbers_more}
@@ -34,7 +35,7 @@ there : (p : Entry → Bool) (f : Entry → ℕ) (xs : List Entry) (n : ℕ) (x 
 there p f [] n x h t = absurd cc
 there p f (y ∷ ys) n x h t = elim (same_or_not y.number n) [
   | inl e ↦
-      let g = (let s = test_same y.number n e in rw s at h) in let same : y ≡ x = cc in
+      let g = (let s = same_test y.number n e in rw s at h) in let same : y ≡ x = cc in
       let u : p y ≡ true = ap p same ∙ t in
       rw u (zero, omega arith, ap f same)
   | inr ne ↦
@@ -58,7 +59,7 @@ module _ (slots : List (Option Entry)) (n : ℕ) (num : NumberedBy slots n) wher
     keys_fresh i k none = keys_hold i (λ j. j ≢ k) (λ j x e same. let g = ap (λ (z : ℕ). get_or slots z None) same in absurd cc)
 
     pub key_there : (k : ℕ) (x : Entry) → get_or slots k None ≡ Some x → Contains (keys_with who slots n (who x)) k
-    key_there k x is = subst (λ (j : ℕ). Contains (keys_with who slots n (who x)) j) (place_is slots num.one k x is) (there (is_owned who (who x)) (key_in slots) (in_order slots n) x.number x (held slots n num k x is) (test_same (who x) (who x) refl))
+    key_there k x is = subst (λ (j : ℕ). Contains (keys_with who slots n (who x)) j) (place_is slots num.one k x is) (there (is_owned who (who x)) (key_in slots) (in_order slots n) x.number x (held slots n num k x is) (same_test (who x) (who x) refl))
 
     pub keys_few : (i : ℕ) → length (keys_with who slots n i) ≤ count_by is_some slots
     keys_few i =
@@ -90,19 +91,15 @@ module _ (old new : List (Option Entry)) (at : ℕ) (x : Entry) (ins : Inserted 
     pub keys_with_more : keys_with who new (n + 1) i ≡ (if nat_eq (who x) i then keys_with who old n i ++ at ∷ [] else keys_with who old n i)
     keys_with_more = elim (same_or_not (who x) i) [
       | inl e ↦
-          let t = test_same (who x) i e in
+          let t = same_test (who x) i e in
           let one : filter (is_owned who i) (x ∷ []) ≡ x ∷ [] = rw t refl in
           let key : key_in new x ≡ at = place_is new (numbers_more old new at x ins n is num).one at x ins.here in
           rw t (split ∙ ((λ j. old_keys j ++ map (key_in new) (one j)) ∙ ap (λ (k : ℕ). keys_with who old n i ++ k ∷ []) key))
       | inr ne ↦
           let t = test_apart (who x) i ne in
           let none : filter (is_owned who i) (x ∷ []) ≡ [] = rw t refl in
-          rw t (split ∙ ((λ j. old_keys j ++ map (key_in new) (none j)) ∙ nothing_more (keys_with who old n i)))
+          rw t (split ∙ ((λ j. old_keys j ++ map (key_in new) (none j)) ∙ append-nil (keys_with who old n i)))
     ]
-      where
-        nothing_more : (ks : List ℕ) → ks ++ [] ≡ ks
-        nothing_more [] = refl
-        nothing_more (k ∷ ks) = ap (λ (js : List ℕ). k ∷ js) (nothing_more ks)
 
 -- one registration less
 module _ (old new : List (Option Entry)) (key : ℕ) (x : Entry) (e : Emptied old new key x) (n : ℕ) (num : NumberedBy old n) (one : (j k : ℕ) (y z : Entry) → get_or new j None ≡ Some y → get_or new k None ≡ Some z → y.number ≡ z.number → j ≡ k) (who : Entry → ℕ) (i : ℕ) where
@@ -114,8 +111,8 @@ module _ (old new : List (Option Entry)) (key : ℕ) (x : Entry) (e : Emptied ol
       elim (same_or_not (key_in old y) key) [
         | inl same ↦
             let it : y ≡ x = (let g = ap (λ (k : ℕ). get_or old k None) same in let w = e.was in cc) in
-            let t = test_same y.number x.number (ap (λ (z : Entry). z.number) it) in
-            let k = test_same (key_in old y) key same in
+            let t = same_test y.number x.number (ap (λ (z : Entry). z.number) it) in
+            let k = same_test (key_in old y) key same in
             elim (cases_Bool (who y == i)) [ inl u ↦ rw (t, u, k) r | inr u ↦ rw (t, u) r ]
         | inr ne ↦
             let t = test_apart y.number x.number (λ g. ne (num.one (key_in old y) key y x at e.was g)) in

@@ -1,3 +1,4 @@
+pub mod CountLemmas
 pub mod NumberLemmas
 pub mod RangeLemmas
 pub mod InOrderLemmas
@@ -15,4 +16,3 @@ pub mod InTurnLemmas
 pub mod GuardsLemmas
 pub mod StopLemmas
 pub mod PassesLemmas
-pub mod TouchedLemmas

@@ -11,6 +11,7 @@ use Rattle.std.specs.List.Sorted.{IsPermutation}
 use Rattle.std.proofs.lemmas.Map.Steps.{length-le_from_distinct_below}
 use Rattle.std.specs.List.{AllByRecursion, IsDistinct, list_any, swap_remove}
 use Rattle.std.specs.Option.{option_map}
+use Rattle.ep_facts.proofs.NatFacts.{same_or_not, same_test, test_apart, test_turned}
 use Rattle.ep_base.specs.declared.ids.DescId.{DescId}
 use Rattle.ep_base.specs.declared.ids.EntryId.{EntryId}
 use Rattle.ep_base.specs.declared.mask.Mask.{Mask}
@@ -19,7 +20,6 @@ use Rattle.ep_interest.specs.InTurn.{Among, changed_at}
 use Rattle.ep_interest.specs.Passes.{ArePassing, has_id, key_numbers, passes_on}
 use Rattle.ep_interest.specs.Registrations.{freshened_on, is_on, settled}
 use Rattle.ep_interest.specs.declared.entry.Entry.{Entry}
-use Rattle.ep_interest.proofs.NumberLemmas.{same_or_not, test_apart, test_same}
 use Rattle.ep_interest.proofs.ReplaceLemmas.{Replaced}
 use Rattle.ep_interest.proofs.InTurnLemmas.{changed_all}
 
@@ -116,12 +116,6 @@ none_apart : (k : ℕ) (xs : List ℕ) → AllByRecursion (λ y. nat_eq k y ≡ 
 none_apart k [] h = refl
 none_apart k (x ∷ xs) h = rw h.0 (none_apart k xs h.1)
 
-eqb_flips : (x y : ℕ) → nat_eq x y ≡ nat_eq y x
-eqb_flips x y = elim (eqb_tells x y) [
-  | inl p ↦ p.0 ∙ sym (test_same y x (sym p.1))
-  | inr p ↦ p.0 ∙ sym (test_apart y x (λ q. p.1 (sym q)))
-]
-
 slot_within : (slots : List (Option Entry)) (k : ℕ) → passes_on (get_or slots k None) ≡ true → k < length slots
 slot_within [] k h = absurd cc
 slot_within (o ∷ slots) zero h = omega arith
@@ -179,7 +173,7 @@ pub noted_less : (id : EntryId) (ids : List EntryId) (k : ℕ) → has_id (filte
 noted_less id [] k = elim (cases_Bool (nat_eq id.0 k)) [ inl t ↦ rw t refl | inr f ↦ rw f refl ]
 noted_less id (x ∷ ids) k = elim (same_or_not x.0 id.0) [
   | inl e ↦
-      let this : (x.0 == id.0) ≡ true = test_same x.0 id.0 e in
+      let this : (x.0 == id.0) ≡ true = same_test x.0 id.0 e in
       rw this (noted_less id ids k ∙ elim (eqb_tells id.0 k) [
         | inl p ↦ rw p.0 refl
         | inr p ↦ let off : eqb k x.0 ≡ false = test_apart k x.0 (λ q. p.1 (sym e ∙ sym q)) in rw (p.0, off) refl
@@ -207,7 +201,7 @@ module _ (ids : List EntryId) (place : ℕ) (id key : EntryId) (here : slice_get
       (IsPermutation-map (λ (j : EntryId). j.0) ids (key ∷ swap_remove ids place key) (IsPermutation-swap_remove ids place key within is))
 
   left_once : IsDistinct nat_eq (key_numbers ids) → IsDistinct nat_eq (id.0 ∷ key_numbers (swap_remove ids place key))
-  left_once once = IsDistinct-IsPermutation nat_eq eqb_flips (key_numbers ids) _ moved once
+  left_once once = IsDistinct-IsPermutation nat_eq test_turned (key_numbers ids) _ moved once
 
   pub once_moved : IsDistinct nat_eq (key_numbers ids) → IsDistinct nat_eq (key_numbers (swap_remove ids place key))
   unfolding IsDistinct

@@ -6,5 +6,4 @@ pub mod Listed
 pub mod Registrations
 pub mod Passes
 pub mod Rows
-pub mod Touched
 pub mod View

@@ -8,7 +8,6 @@ use Rattle.ep_interest.specs.Exclusive.{is_exclusive_slot}
 use Rattle.ep_interest.specs.Registrations.{Registrations, place_among}
 use Rattle.ep_interest.specs.Passes.{ArePassing}
 use Rattle.ep_interest.specs.Rows.{IsRows, row}
-use Rattle.ep_interest.specs.Touched.{AreTouched}
 use Rattle.ep_interest.specs.declared.entry.Entry.{Entry}
 use Rattle.ep_interest.specs.declared.interest.Interest.TheInside.{Inside}
 use Rattle.ep_interest.specs.declared.interest.Key.{Key}
@@ -62,5 +61,4 @@ pub record IsInterest {A : Type 0} (k : Inside A) : Type 0 where
   pub by_target : HasRows target_of k.slots.slots k.added k.by_target
   pub passing : ArePassing k.slots.slots k.passes.keys.items
   pub room : length k.slots.slots ≤ vec_capacity k.passes.keys
-  pub touched : AreTouched k.slots.slots k.touched.numbers.keys
   pub guards : k.guards ≡ count_by is_exclusive_slot k.slots.slots

@@ -1,6 +1,5 @@
 //! All interest sets together.
 ghost use Rattle.std.specs.Prelude.{nat_eq, nat_lt, not, vec_capacity, ◌<◌, ◌≤◌, ◌≡◌, ◌&&◌, ◌+◌, [], ◌∷◌, ◌++◌, false, IfOk, IfNone, IfSome, OnErr, IsSome, Some, is_some, All, filter, length, map, slice_index_or, slice_set, None, option_copied, unwrap_or};
-ghost use Rattle.std.specs.Bool.{OnFalse};
 ghost use Rattle.std.specs.Map.Iter.{ShowsInOrder};
 ghost use Rattle.std.specs.Option.{option_map};
 ghost use Rattle.ep_base.specs.declared.ids.EntryId.{EntryId};
@@ -20,7 +19,6 @@ use crate::guards::{with_one, without_one};
 use crate::passes::Passes;
 use crate::rows::Rows;
 use crate::stop::stop_each;
-use crate::touched::Touched;
 use bitflags::Flags;
 use ep_base::{DescId, EntryId, EntryNumber, EventNumber, Fd, Mask};
 use indexmap::IndexMap;
@@ -222,7 +220,6 @@ pub struct Interest<A: Allocator = Global> {
     by_instance: Rows<A>,
     by_target: Rows<A>,
     passes: Passes<A>,
-    touched: Touched<A>,
     // How many registrations are exclusive.
     guards: u64,
     added: u64,
@@ -242,7 +239,7 @@ impl<A: Allocator> Model for Interest<A> {
 
 impl<A: Allocator> Interest<A> {
     /// No registrations, which takes no memory.
-    #[tactic(auto, using(crate::proofs::PassesLemmas::passing_none, crate::proofs::TouchedLemmas::touched_none))]
+    #[tactic(auto, using(crate::proofs::PassesLemmas::passing_none))]
     pub fn new(alloc: A) -> Interest<A>
     where
         A: Copy,
@@ -257,7 +254,6 @@ impl<A: Allocator> Interest<A> {
             by_instance: Rows::new(alloc),
             by_target: Rows::new(alloc),
             passes: Passes::new(alloc),
-            touched: Touched::new(alloc),
             guards: 0,
             added: 0,
         }
@@ -388,8 +384,6 @@ impl<A: Allocator> Interest<A> {
         let places = places_with(many, id)?;
         self.by_instance.reserve(places)?;
         self.by_target.reserve(places)?;
-        self.touched.note(addition.instance)?;
-        self.touched.note(addition.desc)?;
         self.by_instance.push(addition.instance, id)?;
         match self.by_target.push(addition.desc, id) {
             Ok(()) => {}
@@ -589,8 +583,7 @@ impl<A: Allocator> Interest<A> {
     }
 
     /// Takes away every registration in the set of a description and every one on it, as where the description dies.
-    /// Only these are visited, and each costs what `remove` does. The cost is constant where no registration was in
-    /// its set or on it since it was last purged.
+    /// Only these are visited, and each costs what `remove` does. The cost is constant if there is none.
     pub fn purge(&mut self, desc: DescId)
         ensures entries { self.new.entries ≡ filter (is_apart_from desc) self.old.entries }
         ensures keys { (id : EntryId)
@@ -598,29 +591,9 @@ impl<A: Allocator> Interest<A> {
         ensures added { self.new.added ≡ self.old.added }
     {
         self.known();
-        if !self.may_touch(desc) {
-            return;
-        }
         while let Some(id) = self.first_touching(desc) {
             self.remove(id);
         }
-        self.forget(desc);
-    }
-
-    /// Whether a registration may be in the set of a description or on it.
-    fn may_touch(&self, desc: DescId) -> bool
-        ensures { OnFalse result
-            (filter (is_apart_from desc) self.now.entries ≡ self.now.entries) }
-    {
-        self.touched.has(desc)
-    }
-
-    /// Notes that no registration is in the set of a description or on it.
-    fn forget(&mut self, desc: DescId)
-        requires { filter (is_apart_from desc) self.old.entries ≡ self.old.entries }
-        ensures { self.new ≡ self.old }
-    {
-        self.touched.forget(desc);
     }
 
     /// The key of a registration in the set of a description or on it, `None` where there is none.

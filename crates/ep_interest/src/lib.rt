@@ -10,7 +10,6 @@ mod interest;
 mod passes;
 mod rows;
 mod stop;
-mod touched;
 
 pub use crate::addition::Addition;
 pub use crate::entries::{Entries, ExclusiveWatchers, Watchers};

@@ -1,11 +1,11 @@
 //! The registrations of each owner.
 ghost use Rattle.std.specs.Prelude.{◌≡◌, ◌≢◌, ◌<◌, ◌≤◌, ◌++◌, ◌∷◌, ℕ, [], All, Contains, OnErr, OnOk, filter, if◌then◌else◌, length, map, nat_eq, not, ◌==◌};
 ghost use Rattle.ep_interest.specs.Rows.{IsRows, row};
-ghost use Rattle.ep_rings.specs.KeyWalk.{id_at};
+ghost use Rattle.ep_rings.specs.KeyWalk.{entry_id};
 
 use crate::heads::{Heads, head_of, lengthen, shorten};
 use ep_base::{DescId, EntryId};
-use ep_rings::{Circles, Walk};
+use ep_rings::{Circles, Keys};
 use std::alloc::{AllocError, Allocator, Global};
 
 /// For each owner, an instance or a target, the keys of its registrations in order of registration, linked in a
@@ -73,9 +73,9 @@ impl<A: Allocator> Rows<A> {
     }
 
     /// The keys of an owner's registrations, in order. The first is found in constant time.
-    pub(crate) fn keys(&self, owner: DescId) -> Walk<'_>
+    pub(crate) fn keys(&self, owner: DescId) -> Keys<'_>
         requires { IsRows self.now }
-        ensures { result ≡ map id_at (row self.now owner.0) }
+        ensures { result ≡ map entry_id (row self.now owner.0) }
     {
         let circle = head_of(&self.heads, owner);
         self.circles.keys(circle)

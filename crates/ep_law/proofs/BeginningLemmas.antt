@@ -2,6 +2,9 @@
 use Rattle.std.proofs.Common.{◌≡◌, ℕ, zero, suc, ◌+◌, ◌<◌, ◌&&◌, ◌∙◌, Bool, true, false, List, [], ◌∷◌, None, Option, Some, MatchOption, not, cond, get_or, inl, inr, is_some, length, refl, ap, arith, subst, sym, unwrap_or}
 use Rattle.std.specs.Int.{bit_at}
 use Rattle.std.proofs.lemmas.Bool.{cases_Bool}
+use Rattle.std.proofs.Math.Nat.{zero-add}
+use Rattle.ep_facts.proofs.BoolFacts.{first_of_and, second_of_and}
+use Rattle.ep_facts.proofs.NatFacts.{plus_none as start, shift}
 use Rattle.ep_base.specs.Limits.{Limits}
 use Rattle.ep_base.specs.declared.answer.Answer.{Answer}
 use Rattle.ep_base.specs.declared.call.Event.{Event}
@@ -28,7 +31,7 @@ use Rattle.ep_machine.specs.Step.{next_event, change, refused_or, settled, step}
 use Rattle.ep_machine.specs.Watches.{is_legal, links}
 use Rattle.ep_law.proofs.GraphLemmas.{member_of_map, Linked, linked_begun, linked_change, linked_left, linked_run}
 use Rattle.ep_law.proofs.InstanceLemmas.{Narrows, narrows_deaths, narrows_self}
-use Rattle.ep_law.proofs.ListLemmas.{filtered_member, filtered_passes, first_of_and, second_of_and}
+use Rattle.ep_law.proofs.ListLemmas.{filtered_member, filtered_passes}
 use Rattle.ep_law.proofs.DeathLemmas.{raised_before}
 use Rattle.ep_law.proofs.NamedLivesLemmas.{dying_distinct, dying_placed}
 use Rattle.ep_law.proofs.MarkLemmas.{ready_same}
@@ -51,12 +54,8 @@ live_below f d h = let p = live_place f d h in place_below f.descriptions d p.0 
 -- each live description has its count
 counts_at : (s : State) (raised : List (ℕ × ℕ)) (n : ℕ) (ds : List (Option Place)) (i : ℕ) → i < length ds → get_or (counts_from s raised n ds) i no_counts ≡ counted (spread s raised (n + i)) (counts_of s (n + i))
 counts_at s raised n [] i lt = absurd (omega (arith, lt))
-counts_at s raised n (p ∷ ps) zero lt = ap (λ (d : ℕ). counted (spread s raised d) (counts_of s d)) (start n) where
-  start : (k : ℕ) → k ≡ k + 0
-  start k = omega arith
-counts_at s raised n (p ∷ ps) (suc i) lt = counts_at s raised (n + 1) ps i (omega (arith, lt)) ∙ ap (λ (d : ℕ). counted (spread s raised d) (counts_of s d)) (shift n i) where
-  shift : (k j : ℕ) → k + 1 + j ≡ k + suc j
-  shift k j = omega arith
+counts_at s raised n (p ∷ ps) zero lt = ap (λ (d : ℕ). counted (spread s raised d) (counts_of s d)) (start n)
+counts_at s raised n (p ∷ ps) (suc i) lt = counts_at s raised (n + 1) ps i (omega (arith, lt)) ∙ ap (λ (d : ℕ). counted (spread s raised d) (counts_of s d)) (shift n i)
 
 -- what is no instance shows its own bits, whatever is said of instances
 pub present_other : (r : ℕ → Bool) (d : ℕ) (o : Option Object) (e : End) (now : ℕ) → is_instance (unwrap_or o plain) ≡ false → present_of r d o e now ≡ object_present (unwrap_or o plain) e now
@@ -136,10 +135,8 @@ module _ (close : CloseLaw) (b after : State) (rises : List (ℕ × ℕ)) (linke
     counts : (d : ℕ) → is_live t.files d ≡ true → counts_of t d ≡ counted (spread left up d) (counts_of u d)
     counts d here =
         counts_at left up 0 left.files.descriptions d (live_below left.files d here)
-        ∙ (ap (λ (k : ℕ). counted (spread left up k) (counts_of left k)) (zero_plus d)
-        ∙ ap (λ (cs : List Counts). counted (spread left up d) (get_or cs d no_counts)) arrivals) where
-          zero_plus : (k : ℕ) → 0 + k ≡ k
-          zero_plus k = omega arith
+        ∙ (ap (λ (k : ℕ). counted (spread left up k) (counts_of left k)) (zero-add d)
+        ∙ ap (λ (cs : List Counts). counted (spread left up d) (get_or cs d no_counts)) arrivals)
 
   leads_after : Leads after left t up
   leads_after = record {

@@ -1,9 +1,11 @@
 -- What a change does to what holds at descriptions, and to registrations.
-use Rattle.std.proofs.Common.{◌≡◌, ℕ, zero, suc, ◌+◌, ◌<◌, ◌==◌, ◌&&◌, ◌||◌, ◌++◌, ◌∙◌, ◌⊎◌, Bool, true, false, List, [], ◌∷◌, None, Option, Some, MatchOption, ℤ, pos, negsuc, not, cond, filter, get_or, inl, inr, is_none, length, map, refl, ap, arith, subst, sym, unwrap_or}
+use Rattle.std.proofs.Common.{◌≡◌, ℕ, zero, suc, ◌+◌, ◌<◌, ◌==◌, ◌&&◌, ◌++◌, ◌∙◌, ◌⊎◌, Bool, true, false, List, [], ◌∷◌, None, Option, Some, MatchOption, ℤ, pos, negsuc, not, cond, filter, get_or, inl, inr, is_none, length, map, refl, ap, arith, subst, sym, unwrap_or}
 use Rattle.std.specs.List.{list_any}
 use Rattle.std.specs.Int.{bit_at}
 use Rattle.std.proofs.lemmas.Bool.{cases_Bool}
 use Rattle.std.proofs.lemmas.List.{get_or_append_left, get_or-set_same}
+use Rattle.ep_facts.proofs.NatFacts.{from_test, same_or_not}
+use Rattle.ep_facts.proofs.BoolFacts.{first_of_and}
 use Rattle.ep_base.specs.Limits.{Limits}
 use Rattle.ep_base.specs.declared.answer.Answer.TheVariants.{Events, Still}
 use Rattle.ep_base.specs.declared.call.Call.{Call}
@@ -33,9 +35,8 @@ use Rattle.ep_machine.specs.Waits.{advance_at, has_parked, is_due, is_parked, le
 use Rattle.ep_machine.specs.Watches.{add, ctl, delete, has_key, is_add, is_del, looked_at, modified, modify, new_watch, number_in, with_watch}
 use Rattle.ep_law.proofs.GraphLemmas.{member_of_map}
 use Rattle.ep_law.proofs.InstanceLemmas.{FirstIsNone, Narrows, narrows_affected, narrows_one, narrows_self, narrows_two}
-use Rattle.ep_law.proofs.ListLemmas.{filtered_member, first_of_and, member_filter, member_map}
-use Rattle.ep_law.proofs.DeathLemmas.{get_other, same_or_not}
-use Rattle.ep_law.proofs.TestLemmas.{from_test}
+use Rattle.ep_law.proofs.ListLemmas.{any_has, filtered_member, member_filter, member_map}
+use Rattle.ep_law.proofs.DeathLemmas.{get_other}
 use Rattle.ep_object.specs.Law.{AdvanceLaw, ApplyLaw, object_has}
 use Rattle.ep_object.proofs.BitLemmas.{Covers, covers_more, covers_self, no_bit, to_bits}
 use Rattle.ep_object.proofs.KindLemmas.{call_keeps_plain, effect_has, plain_is}
@@ -72,14 +73,6 @@ kept_reported b ks w m =
       | true ↦ record { was = w; there = m; instance = refl; target = refl; mask = refl; armed = λ a. first_of_and w.armed _ a; seen = inr refl }
       | false ↦ kept_same b w m
     ]
-
-any_has : {X : Type 0} (f : X → Bool) (xs : List X) (x : X) → Member x xs → f x ≡ true → list_any f xs ≡ true
-any_has f [] x m t = absurd m
-any_has f (y ∷ ys) x (inl e) t = ap (λ (b : Bool). b || list_any f ys) (sym (ap f e) ∙ t)
-any_has f (y ∷ ys) x (inr m) t = ap (λ (b : Bool). f y || b) (any_has f ys x m t) ∙ last (f y) where
-  last : (b : Bool) → (b || true) ≡ true
-  last true = refl
-  last false = refl
 
 looked_raises : (after : State) (e : ℕ) (xs : List Watch) (x : Watch) → Member x xs → x.instance ≡ e → IsLooked after (looked_at after e xs) x
 looked_raises after e xs x m at shows =

@@ -1,16 +1,17 @@
 -- Descriptions that die in any order leave the same files.
-use Rattle.std.proofs.Common.{◌≡◌, ◌≢◌, ◌∙◌, ◌+◌, ◌==◌, ◌&&◌, ◌||◌, ◌⊎◌, ℕ, zero, suc, Bool, true, false, List, [], ◌∷◌, None, Option, Some, ap, arith, cond, filter, get_or, if◌then◌else◌, inl, inr, map, not, refl, set, subst, sym, unwrap_or}
+use Rattle.std.proofs.Common.{◌≡◌, ◌≢◌, ◌∙◌, ◌+◌, ◌==◌, ◌&&◌, ◌||◌, ℕ, zero, suc, Bool, true, false, List, [], ◌∷◌, None, Option, Some, ap, cond, filter, get_or, if◌then◌else◌, inl, inr, map, not, refl, set, subst, sym, unwrap_or}
 use Rattle.std.specs.List.{AllByRecursion, list_any}
 use Rattle.std.proofs.lemmas.Bool.{false≢true}
-use Rattle.std.proofs.lemmas.Bool.Decides.{nat_tests}
 use Rattle.std.proofs.lemmas.List.{set_comm}
+use Rattle.std.proofs.Math.Bool.{or-true}
+use Rattle.ep_facts.proofs.BoolFacts.{both_true, first_of_or, from_not, second_of_or}
+use Rattle.ep_facts.proofs.NatFacts.{from_test, same_nat, same_or_not, test_apart}
 use Rattle.ep_base.specs.declared.object.End.{End}
 use Rattle.ep_machine.specs.Deaths.{die, die_all}
 use Rattle.ep_machine.specs.Files.{Files, Place, place_of}
 use Rattle.ep_machine.specs.Lists.{are_distinct, is_among, numbered}
 use Rattle.ep_machine.specs.Objects.{Object, close_end, plain}
 use Rattle.ep_object.proofs.KindLemmas.{closes_commute}
-use Rattle.ep_law.proofs.TestLemmas.{both_true, same_nat}
 
 -- Lists.
 set_twice : (xs : List (Option Object)) (k : ℕ) (a b : Option Object) → set (set xs k a) k b ≡ set xs k b
@@ -42,16 +43,13 @@ get_place (x ∷ xs) (suc k) (suc j) a h = get_place xs k j a (λ e. h (ap suc e
 abbrev pub has_one : ℕ → ℕ → List (Option Place) → Bool
 has_one k from ds = list_any (λ y. y.1.object == k) (numbered from ds)
 
-pub differs : (a b : ℕ) → a ≢ b → (a == b) ≡ false
-differs a b h = grind (arith, nat_tests, h)
-
 -- the death of a description of another object leaves it
 has_other : (k from at : ℕ) (ds : List (Option Place)) (p : Place) → get_or ds at None ≡ Some p → p.object ≢ k → has_one k from (set ds at None) ≡ has_one k from ds
 has_other k from at [] p is h = refl
 has_other k from zero (None ∷ ds) p is h = refl
 has_other k from zero (Some q ∷ ds) p is h =
     let same : q ≡ p = cc in
-    let e : (q.object == k) ≡ false = ap (λ (r : Place). r.object == k) same ∙ differs p.object k h in
+    let e : (q.object == k) ≡ false = ap (λ (r : Place). r.object == k) same ∙ test_apart p.object k h in
     ap (λ (b : Bool). b || has_one k (from + 1) ds) (sym e)
 has_other k from (suc at) (None ∷ ds) p is h = has_other k (from + 1) at ds p is h
 has_other k from (suc at) (Some q ∷ ds) p is h = ap (λ (b : Bool). (q.object == k) || b) (has_other k (from + 1) at ds p is h)
@@ -65,16 +63,7 @@ has_here k from zero (Some q ∷ ds) p is h =
     let e : (q.object == k) ≡ true = ap (λ (r : Place). r.object == k) same ∙ (ap (λ (n : ℕ). n == k) h ∙ same_nat k) in
     ap (λ (b : Bool). b || has_one k (from + 1) ds) e
 has_here k from (suc at) (None ∷ ds) p is h = has_here k (from + 1) at ds p is h
-has_here k from (suc at) (Some q ∷ ds) p is h = ap (λ (b : Bool). (q.object == k) || b) (has_here k (from + 1) at ds p is h) ∙ or_true (q.object == k) where
-  or_true : (b : Bool) → (b || true) ≡ true
-  or_true true = refl
-  or_true false = refl
-
-pub same_or_not : (a b : ℕ) → (a ≡ b) ⊎ (a ≢ b)
-same_or_not zero zero = inl refl
-same_or_not zero (suc b) = inr (λ e. absurd (omega (arith, e)))
-same_or_not (suc a) zero = inr (λ e. absurd (omega (arith, e)))
-same_or_not (suc a) (suc b) = elim (same_or_not a b) [ inl e ↦ inl (ap suc e) | inr ne ↦ inr (λ e. ne (omega (arith, e))) ]
+has_here k from (suc at) (Some q ∷ ds) p is h = ap (λ (b : Bool). (q.object == k) || b) (has_here k (from + 1) at ds p is h) ∙ or-true (q.object == k)
 
 -- Two deaths.
 module _ (s : Files) (x y : ℕ × Place) (apart : x.0 ≢ y.0) (x_is : place_of s x.0 ≡ Some x.1) (y_is : place_of s y.0 ≡ Some y.1) where
@@ -185,16 +174,9 @@ ArePlaced s xs = AllByRecursion (λ x. place_of s x.0 ≡ Some x.1) xs
 
 not_among : (k : ℕ) (x : ℕ × Place) (xs : List (ℕ × Place)) → is_among (numbers (x ∷ xs)) k ≡ false → (k ≢ x.0) × (is_among (numbers xs) k ≡ false)
 not_among k x xs h =
-    let first : (k == x.0) ≡ false = or_first (k == x.0) (is_among (numbers xs) k) h in
-    let rest = or_second (k == x.0) (is_among (numbers xs) k) h in
-    (λ e. false≢true (sym first ∙ (ap (λ (n : ℕ). k == n) (sym e) ∙ same_nat k)), rest) where
-      or_first : (a b : Bool) → (a || b) ≡ false → a ≡ false
-      or_first true b e = e
-      or_first false b e = refl
-
-      or_second : (a b : Bool) → (a || b) ≡ false → b ≡ false
-      or_second true b e = absurd (false≢true (sym e))
-      or_second false b e = e
+    let first : (k == x.0) ≡ false = first_of_or (k == x.0) (is_among (numbers xs) k) h in
+    let rest = second_of_or (k == x.0) (is_among (numbers xs) k) h in
+    (λ e. false≢true (sym first ∙ (ap (λ (n : ℕ). k == n) (sym e) ∙ same_nat k)), rest)
 
 pub still_placed : (s : Files) (x : ℕ × Place) (xs : List (ℕ × Place)) → is_among (numbers xs) x.0 ≡ false → ArePlaced s xs → ArePlaced (after_all s (x ∷ [])) xs
 still_placed s x [] h p = tt
@@ -209,7 +191,7 @@ without_none : (k : ℕ) (xs : List (ℕ × Place)) → is_among (numbers xs) k 
 without_none k [] h = refl
 without_none k (x ∷ xs) h =
     let out = not_among k x xs h in
-    let e : (x.0 == k) ≡ false = differs x.0 k (λ i. out.0 (sym i)) in
+    let e : (x.0 == k) ≡ false = test_apart x.0 k (λ i. out.0 (sym i)) in
     ap (λ (b : Bool). cond (not b) (x ∷ without k xs) (without k xs)) e ∙ ap (λ (ys : List (ℕ × Place)). x ∷ ys) (without_none k xs out.1)
 
 -- the first two change places
@@ -218,15 +200,11 @@ front_moved s x y rest apart x_is y_is =
     let both : (a b : ℕ × Place) → after_all s (a ∷ b ∷ rest) ≡ after_all (after_all s (a ∷ b ∷ [])) rest = λ a b. raised_before (die_all (s, []) (a ∷ b ∷ [])).0 (die_all (s, []) (a ∷ b ∷ [])).1 rest in
     both x y ∙ (ap (λ (f : Files). after_all f rest) (two_deaths s x y apart x_is y_is) ∙ sym (both y x))
 
-not_true : (a : Bool) → not a ≡ true → a ≡ false
-not_true true h = absurd (false≢true h)
-not_true false h = refl
-
 pub apart_from_rest : (x : ℕ × Place) (xs : List (ℕ × Place)) → are_distinct (numbers (x ∷ xs)) ≡ true → (is_among (numbers xs) x.0 ≡ false) × (are_distinct (numbers xs) ≡ true)
-apart_from_rest x xs h = let both = both_true _ _ h in (not_true _ both.0, both.1)
+apart_from_rest x xs h = let both = both_true _ _ h in (from_not _ both.0, both.1)
 
 in_rest : (k : ℕ) (y : ℕ × Place) (ys : List (ℕ × Place)) → y.0 ≢ k → is_among (numbers (y ∷ ys)) k ≡ true → is_among (numbers ys) k ≡ true
-in_rest k y ys ne h = let e = differs k y.0 (λ i. ne (sym i)) in ap (λ (b : Bool). b || is_among (numbers ys) k) (sym e) ∙ h
+in_rest k y ys ne h = let e = test_apart k y.0 (λ i. ne (sym i)) in ap (λ (b : Bool). b || is_among (numbers ys) k) (sym e) ∙ h
 
 same_place : (s : Files) (x y : ℕ × Place) → place_of s x.0 ≡ Some x.1 → place_of s y.0 ≡ Some y.1 → y.0 ≡ x.0 → y ≡ x
 same_place s x y x_is y_is e =
@@ -245,7 +223,7 @@ to_front s x (y ∷ ys) d p x_is h =
           ∙ without_none x.0 ys (ap (λ (k : ℕ). is_among (numbers ys) k) (sym e) ∙ rest.0) in
           (λ i. after_all s (same i ∷ sym gone i))
       | inr ne ↦
-          let kept : without x.0 (y ∷ ys) ≡ y ∷ without x.0 ys = ap (λ (b : Bool). cond (not b) (y ∷ without x.0 ys) (without x.0 ys)) (differs y.0 x.0 ne) in
+          let kept : without x.0 (y ∷ ys) ≡ y ∷ without x.0 ys = ap (λ (b : Bool). cond (not b) (y ∷ without x.0 ys) (without x.0 ys)) (test_apart y.0 x.0 ne) in
           let t = after_all s (y ∷ []) in
           let later = to_front t x ys rest.1 (still_placed s y ys rest.0 p.1) (get_place s.descriptions y.0 x.0 None ne ∙ x_is) (in_rest x.0 y ys ne h) in
           after_first s y ys
@@ -265,12 +243,9 @@ among_without k d (y ∷ ys) = elim (same_or_not y.0 k) [
       ap (λ (b : Bool). is_among (numbers (cond (not b) (y ∷ without k ys) (without k ys))) d) (ap (λ (n : ℕ). n == k) e ∙ same_nat k)
       ∙ (among_without k d ys ∙ (of_same (d == k) (is_among (numbers ys) d) ∙ ap (λ (n : ℕ). not (d == k) && ((d == n) || is_among (numbers ys) d)) (sym e)))
   | inr ne ↦
-      ap (λ (b : Bool). is_among (numbers (cond (not b) (y ∷ without k ys) (without k ys))) d) (differs y.0 k ne)
+      ap (λ (b : Bool). is_among (numbers (cond (not b) (y ∷ without k ys) (without k ys))) d) (test_apart y.0 k ne)
       ∙ (ap (λ (b : Bool). (d == y.0) || b) (among_without k d ys) ∙ of_other (d == y.0) (d == k) (is_among (numbers ys) d) (λ a b. ne (sym (from_test d y.0 a) ∙ from_test d k b)))
 ] where
-  from_test : (a b : ℕ) → (a == b) ≡ true → a ≡ b
-  from_test a b h = grind (arith, nat_tests, h)
-
   of_same : (a b : Bool) → (not a && b) ≡ (not a && (a || b))
   of_same true b = refl
   of_same false b = refl
@@ -313,7 +288,7 @@ same_dead s (x ∷ xs) ys dx dy px py same =
     let more : (d : ℕ) → is_among (numbers xs) d ≡ is_among (numbers left) d = λ d. elim (same_or_not d x.0) [
       | inl e ↦ subst (λ (k : ℕ). is_among (numbers xs) k ≡ is_among (numbers left) k) (sym e) (rest.0 ∙ sym gone)
       | inr ne ↦
-          let t = differs d x.0 ne in
+          let t = test_apart d x.0 ne in
           (λ i. sym t i || is_among (numbers xs) d)
           ∙ (same d ∙ ((λ i. not (sym t i) && is_among (numbers ys) d) ∙ sym (among_without x.0 d ys)))
     ] in

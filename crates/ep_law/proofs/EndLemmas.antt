@@ -1,6 +1,7 @@
 -- Each description has an end of an object of its own, and that end is there.
 use Rattle.std.proofs.Common.{◌≡◌, ◌≢◌, ℕ, zero, suc, ◌<◌, ◌++◌, ◌∙◌, ◌⊎◌, Bool, true, false, List, [], ◌∷◌, None, Option, Some, get_or, if◌then◌else◌, inl, inr, length, refl, ap, arith, set, subst, sym, unwrap_or}
 use Rattle.std.proofs.lemmas.List.{get_or_append_left, length_push, length-set}
+use Rattle.ep_facts.proofs.NatFacts.{less_apart}
 use Rattle.ep_base.specs.declared.object.End.{End}
 use Rattle.ep_base.specs.declared.object.End.TheVariants.{First, Second}
 use Rattle.ep_machine.specs.Deaths.{kept_object}
@@ -83,14 +84,11 @@ pushed_object : (os : List (Option Object)) (x : Object) → get_or (os ++ Some 
 pushed_object [] x = refl
 pushed_object (y ∷ os) x = pushed_object os x
 
-not_less : (a b : ℕ) → a < b → a ≡ b → ⊥
-not_less a b l e = absurd (omega (arith, l, e))
-
 pub own_one : (f : Files) (p : ℕ) (x : Object) (cloexec : Bool) → object_has x First ≡ true → Own f → Own (create_one f p x cloexec)
 own_one f p x cloexec has own =
     let more = length_push f.objects (Some x) in
     own_describe (new_object f x) p (length f.objects) First cloexec (omega (arith, more)) (ap (λ (o : Option Object). object_has (unwrap_or o plain) First) (pushed_object f.objects x) ∙ has)
-    (λ d q e at side. not_less q.object (length f.objects) (own.made d q e) at) (own_new_object f x own)
+    (λ d q e at side. less_apart q.object (length f.objects) (own.made d q e) at) (own_new_object f x own)
 
 first_not_second : First ≡ Second → ⊥
 first_not_second e = cc
@@ -101,7 +99,7 @@ own_two f p x cloexec has also own =
     let place : Place = record { object = length f.objects; side = First } in
     own_describe (create_one f p x cloexec) p (length f.objects) Second cloexec (omega (arith, more)) (ap (λ (o : Option Object). object_has (unwrap_or o plain) Second) (pushed_object f.objects x) ∙ also)
     (λ d q e at side. elim (pushed_place f.descriptions place d q e) [
-      | inl old ↦ not_less q.object (length f.objects) (own.made d q old) at
+      | inl old ↦ less_apart q.object (length f.objects) (own.made d q old) at
       | inr new ↦ first_not_second (ap (λ (z : Place). z.side) new.1 ∙ side)
     ]) (own_one f p x cloexec has own)
 

@@ -1,10 +1,13 @@
 -- While a registration stays reportable and unreported, none of its instance is reported twice.
-use Rattle.std.proofs.Common.{◌≡◌, ℕ, zero, suc, ◌+◌, ◌<◌, ◌≤◌, ◌==◌, ◌&&◌, ◌||◌, ◌++◌, ◌⊎◌, ◌∙◌, All, Bool, List, [], ◌∷◌, MatchOption, None, Option, Some, ℤ, pos, negsuc, true, false, not, ap, arith, cond, filter, get_or, if◌then◌else◌, inl, inr, is_some, length, map, nat_le, refl, subst, sym, append_assoc}
+use Rattle.std.proofs.Common.{◌≡◌, ℕ, zero, suc, ◌+◌, ◌<◌, ◌≤◌, ◌==◌, ◌&&◌, ◌||◌, ◌++◌, ◌∙◌, All, Bool, List, [], ◌∷◌, MatchOption, None, Option, Some, ℤ, pos, negsuc, true, false, not, ap, arith, cond, filter, get_or, if◌then◌else◌, inl, inr, length, map, nat_le, refl, subst, sym, append_assoc}
 use Rattle.std.specs.List.{list_all}
 use Rattle.std.proofs.lemmas.Bool.{cases_Bool}
-use Rattle.std.proofs.lemmas.Bool.Decides.{nat_tests}
 use Rattle.std.proofs.lemmas.List.{append-nil}
 use Rattle.std.proofs.lemmas.List.Elements.{All-filter, All-map, All-push}
+use Rattle.ep_facts.proofs.AmongFacts.{among_append}
+use Rattle.ep_facts.proofs.OptionFacts.{value_of}
+use Rattle.ep_facts.proofs.NatFacts.{from_le, from_test}
+use Rattle.ep_facts.proofs.BoolFacts.{first_of_and, from_not, or_cases, second_of_and}
 use Rattle.ep_base.specs.Limits.{Limits}
 use Rattle.ep_base.specs.declared.answer.Answer.{Answer}
 use Rattle.ep_base.specs.declared.answer.Answer.TheVariants.{Events}
@@ -31,10 +34,9 @@ use Rattle.ep_machine.specs.State.{Change, State, Watch, counts_of}
 use Rattle.ep_machine.specs.Step.{next_event, call_change, change, refused_or, settled, step}
 use Rattle.ep_machine.specs.Waits.{leave_after, resume, tick, wait_for}
 use Rattle.ep_machine.specs.Watches.{ctl, has_key, is_add, is_del, modified, new_watch, number_in, with_watch}
-use Rattle.ep_law.proofs.ListLemmas.{all_member, among_member, among_split, distinct_append, distinct_filtered, each_found, filtered_member, filtered_passes, find_member, found_member, list_all_member, mapped_member, one_number, among, any_member, first_of_and, member_filter, member_map, second_of_and}
+use Rattle.ep_law.proofs.ListLemmas.{all_member, among_member, distinct_append, distinct_filtered, each_found, filtered_member, filtered_passes, find_member, found_member, list_all_member, mapped_member, one_number, among, any_member, member_filter, member_map}
 use Rattle.ep_law.proofs.StepLemmas.{left_after, resumes}
 use Rattle.ep_law.proofs.SoundLemmas.{sound_begun, sound_run, sound_step}
-use Rattle.ep_law.proofs.TestLemmas.{from_test}
 
 -- k became reportable by event m; what was told was reported after it
 record Tracks (k m : ℕ) (told : List ℕ) (s : State) : Type 0 where
@@ -126,9 +128,6 @@ module _ (k m : ℕ) (told : List ℕ) where
       (tracks_map t (came (reportable_numbers before) t) (keeps_came (reportable_numbers before) t was) (same_watches left t refl refl refl kept))
 
 -- What is told besides.
-or_cases : (a b : Bool) → (a || b) ≡ true → (a ≡ true) ⊎ (b ≡ true)
-or_cases true b h = inl refl
-or_cases false b h = inr h
 
 reported_from : (s : State) (ks : List ℕ) (x : Watch) → is_among ks x.number ≡ false → (reported s ks x).from ≡ x.from
 reported_from s ks x h = ap (λ (b : Bool). (cond b (record x { seen = Some (counts_of s x.target); rep = s.n; from = s.n; armed = x.armed && not (has_bit x.mask ONESHOT) }) x).from) h
@@ -153,25 +152,18 @@ module _ (k m : ℕ) (told ks more : List ℕ) (s : State) (now : m < s.n) (left
     rep = All-map (λ x. is_among (told ++ more) x.number ≡ true → m < x.rep) (reported s ks) s.watches (λ i d lt t.
         let x = get_or s.watches i d in
         reported_rep s ks x m now (λ f.
-        elim (or_cases _ _ (sym (among_split told more x.number) ∙ (ap (is_among (told ++ more)) (sym (reported_number s ks x)) ∙ t))) [
+        elim (or_cases _ _ (sym (among_append told more x.number) ∙ (ap (is_among (told ++ more)) (sym (reported_number s ks x)) ∙ t))) [
           | inl old ↦ h.rep i d lt old
           | inr new ↦ absurd (let u : false ≡ true = sym f ∙ (each x.number new).0 in cc)
         ]));
-    below = λ j t. elim (or_cases _ _ (sym (among_split told more j) ∙ t)) [ inl old ↦ h.below j old | inr new ↦ (each j new).1 ];
+    below = λ j t. elim (or_cases _ _ (sym (among_append told more j) ∙ t)) [ inl old ↦ h.below j old | inr new ↦ (each j new).1 ];
     there = h.there;
     past = h.past;
   }
 
-le_from : (a b : ℕ) → nat_le a b ≡ true → a ≤ b
-le_from a b h = grind (arith, nat_tests, h)
-
 or_false : (a b : Bool) → a ≡ false → (a || b) ≡ true → b ≡ true
 or_false true b h t = cc
 or_false false b h t = t
-
-from_some : (o : Option Watch) → is_some o ≡ true → (x : Watch) × (o ≡ Some x)
-from_some None h = cc
-from_some (Some x) h = (x, refl)
 
 no_round : (a b c : ℕ) → a ≤ b → b ≤ c → c < a → ⊥
 no_round a b c p q r = omega (arith, p, q, r)
@@ -186,7 +178,7 @@ module _ (k m e other most : ℕ) (told ks : List ℕ) (s : State) (sound : Soun
       let long : length reports ≡ length ks = from_test _ _ (second_of_and (are_distinct ks) (length reports == length ks) sizes) in
       let fair : list_all (is_fair_to reports ks) ready ≡ true = second_of_and _ _ pick in
       let there : Member j ks = among_member ks j picked in
-      let found = from_some (find_watch ready j) (each_found (find_watch ready) ks j long there) in
+      let found = value_of (find_watch ready j) (each_found (find_watch ready) ks j long there) in
       let x = found.0 in
       let at = find_member ready j x found.1 in
       let told_here : Member x reports = found_member (find_watch ready) ks j x there found.1 in
@@ -201,7 +193,7 @@ module _ (k m e other most : ℕ) (told ks : List ℕ) (s : State) (sound : Soun
       let y_ready : Member y ready = subst (λ (i : ℕ). Member y (reportables s i)) one waiting.1 in
       let y_fair = list_all_member (is_fair_to reports ks) ready y fair y_ready in
       let all = or_false (is_among ks y.number) _ (ap (is_among ks) waiting.2 ∙ left) y_fair in
-      let less : x.rep ≤ y.from = le_from _ _ (list_all_member (λ w. nat_le w.rep y.from) reports x all told_here) in
+      let less : x.rep ≤ y.from = from_le _ _ (list_all_member (λ w. nat_le w.rep y.from) reports x all told_here) in
       let late : y.from ≤ m = all_member (λ w. w.number ≡ k → w.from ≤ m) s.watches y h.from (filtered_member _ s.watches y waiting.1) waiting.2 in
       let after : m < x.rep = all_member (λ w. is_among told w.number ≡ true → m < w.rep) s.watches x h.rep x_in (ap (is_among told) at.1 ∙ old) in
       no_round x.rep y.from m less late after
@@ -325,10 +317,6 @@ reportable_begun : (s : State) (e k : ℕ) → is_reportable_in (next_event s) e
 unfolding is_ready
 reportable_begun s e k = refl
 
-not_false : (a : Bool) → not a ≡ true → a ≡ false
-not_false true h = cc
-not_false false h = refl
-
 le_next : (a b : ℕ) → a ≤ b → a ≤ b + 1
 le_next a b h = omega (arith, h)
 
@@ -343,7 +331,7 @@ rounds : (limits : Limits) (e k m : ℕ) (later : List Record) (told : List ℕ)
 rounds limits e k m [] told s sound h distinct left = ap are_distinct (append-nil told) ∙ distinct
 rounds limits e k m (r ∷ later) told s sound h distinct left =
     let stays = first_of_and _ _ (first_of_and _ _ left) in
-    let unpicked = not_false (is_among r.picked k) (second_of_and _ _ (first_of_and _ _ left)) in
+    let unpicked = from_not (is_among r.picked k) (second_of_and _ _ (first_of_and _ _ left)) in
     let rest : is_left_out limits e k (go_on limits (Some s) r) later ≡ true = second_of_and _ _ left in
     let more = filter (is_in s e) r.picked in
     let begin : Tracks k m told (next_event s) = record { from = h.from; rep = h.rep; below = h.below; there = h.there; past = le_next m s.n h.past } in

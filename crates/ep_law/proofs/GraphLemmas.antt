@@ -4,15 +4,16 @@ use Rattle.std.specs.Prelude.{bit_and}
 use Rattle.std.proofs.lemmas.Nat.{and_assoc}
 use Rattle.std.specs.Int.Bits.{and_zero_r}
 use Rattle.ep_machine.specs.Bits.{EXCLUSIVE, ONESHOT, exclusive_bits, has_bit, has_only}
-use Rattle.ep_law.proofs.TestLemmas.{from_test, neither}
 use Rattle.ep_machine.specs.Files.{Files, is_live, object_of, named_by, object_under, opening_files}
 use Rattle.ep_law.specs.Laws.{Member, GraphStaysLegal, ExclusiveTargets, IsApart}
 use Rattle.ep_machine.specs.Lists.{is_among, is_empty}
 use Rattle.ep_machine.specs.Objects.{is_instance, plain, is_plain}
 use Rattle.ep_machine.specs.State.{State, Watch, Change, Waiter, counts_of, opening}
 use Rattle.ep_machine.specs.Watches.{ends_of_chains, is_legal, links, add, ctl, has_key, is_add, is_del, is_exclusive, is_mod, modified, modify, new_watch, number_in, with_watch}
-use Rattle.ep_law.proofs.ListLemmas.{among_member, filtered_member, filtered_passes, among, member_filter, member_map, not_empty, not_true}
-use Rattle.std.proofs.lemmas.Bool.{false≢true, cases_Bool}
+use Rattle.ep_law.proofs.ListLemmas.{among_member, filtered_member, filtered_passes, among, member_filter, member_map, not_empty}
+use Rattle.std.proofs.lemmas.Bool.{cases_Bool, false_from_ne_true, false≢true, or_parts}
+use Rattle.ep_facts.proofs.NatFacts.{from_test}
+use Rattle.ep_facts.proofs.BoolFacts.{from_not_false, or_nothing_false}
 use Rattle.ep_base.specs.declared.call.Call.{Call}
 use Rattle.ep_law.proofs.ShapeLemmas.{OfCtl, by_making, by_shape}
 use Rattle.ep_machine.specs.Deaths.{die_all, buried, dying, is_kept}
@@ -120,7 +121,7 @@ linked_narrows s t narrows of h = record {
       let was = h.exclusive x.0 x.1 (ap (λ (k : ℕ). has_bit k EXCLUSIVE) alike.0 ∙ is) in
       let same : x.0.target ≡ y.target = ap (λ (l : ℕ × ℕ). l.1) x.2 in
       record {
-        target = not_true _ (λ holds. false≢true (sym was.target ∙ (ap (has_instance s.files) same ∙ narrows.instances y.target (below y m) holds)));
+        target = false_from_ne_true _ (λ holds. false≢true (sym was.target ∙ (ap (has_instance s.files) same ∙ narrows.instances y.target (below y m) holds)));
         armed = alike.1 was.armed was.always;
         always = ap (λ (k : ℕ). has_bit k ONESHOT) (sym alike.0) ∙ was.always;
       };
@@ -203,10 +204,6 @@ is_eperm e = false
 abbrev pub is_einval : Errno → Bool
 is_einval Einval = true
 is_einval e = false
-
-or_none : (a : Bool) → (a || false) ≡ false → a ≡ false
-or_none true h = h
-or_none false h = refl
 
 -- A new registration.
 pushed_member : (xs : List Watch) (x y : Watch) → Member y (xs ++ x ∷ []) → Member y xs ⊎ (y ≡ x)
@@ -314,10 +311,6 @@ not_exclusive false true m x p q h k = absurd (false≢true (sym q))
 not_exclusive false false true x p q h k = k
 not_exclusive false false false x p q h k = absurd (false≢true (sym h))
 
-is_there_not : (a : Bool) → not a ≡ false → a ≡ true
-is_there_not true h = refl
-is_there_not false h = absurd (false≢true (sym h))
-
 -- by what no refusal says
 linked_ctl : (s : State) (p : ℕ) (epfd op fd : ℤ) (mask tag : ℕ) → Linked s
     → (is_add op && is_instance (object_under s.files p fd) && not (is_legal ((named_by s.files p epfd, named_by s.files p fd) ∷ links s))) ≡ false
@@ -330,7 +323,7 @@ linked_ctl s p epfd op fd mask tag h loops shows instances ops adds mods =
     let e = named_by s.files p epfd in
     let d = named_by s.files p fd in
     let k = number_in fd in
-    let here : has_instance s.files e ≡ true = is_there_not _ (neither (not (has_instance s.files e)) (e == d) instances).0 in
+    let here : has_instance s.files e ≡ true = from_not_false _ (or_parts (not (has_instance s.files e)) (e == d) instances).0 in
     let removed = linked_watches s (filter (λ x. not (has_key e k d x)) s.watches) (of_filter (λ x. not (has_key e k d x)) s.watches) h in
     let changed : has_bit mask EXCLUSIVE ≡ false → Linked (modify s e k d mask tag).1 = λ plainly.
     linked_watches s (map (modified e k d mask tag) s.watches) (of_map (modified e k d mask tag) (modified_link e k d mask tag) (modified_armed e k d mask tag plainly) s.watches) h in
@@ -398,11 +391,11 @@ module _ (limits : Limits) (s : State) (caller p : ℕ) (call : Call) (ks : List
 
   linked_by_ctl : OfCtl limits s caller p ks IsLinked
   linked_by_ctl epfd op fd mask tag a b c =
-      let instances = neither _ _ c in
-      let ops = neither _ _ instances.1 in
-      let adds = neither _ _ ops.1 in
-      let mods = neither _ _ adds.1 in
-      fine_plainly ks _ (linked_ctl s p epfd.0 op fd.0 mask.0 tag h (or_none _ a) (or_none _ b) instances.0 ops.0 adds.0 mods.0)
+      let instances = or_parts _ _ c in
+      let ops = or_parts _ _ instances.1 in
+      let adds = or_parts _ _ ops.1 in
+      let mods = or_parts _ _ adds.1 in
+      fine_plainly ks _ (linked_ctl s p epfd.0 op fd.0 mask.0 tag h (or_nothing_false _ a) (or_nothing_false _ b) instances.0 ops.0 adds.0 mods.0)
 
   fine_call : held is_eloop (call_refusals limits s p call) ≡ false → held is_eperm (call_refusals limits s p call) ≡ false → held is_einval (call_refusals limits s p call) ≡ false → Fine (call_change limits s caller p call ks)
   fine_call =

@@ -2,6 +2,7 @@
 use Rattle.std.proofs.Common.{◌≡◌, ℕ, Option, zero, suc, ◌==◌, ◌&&◌, ◌||◌, ◌∙◌, Bool, true, false, List, [], ◌∷◌, ap, cond, filter, inl, inr, not, refl}
 use Rattle.std.specs.List.{list_any}
 use Rattle.std.specs.Prelude.{bit_or}
+use Rattle.std.proofs.lemmas.Bool.{or_parts}
 use Rattle.ep_machine.specs.Bits.{IN, has_bit}
 use Rattle.ep_machine.specs.Exclusive.{is_guarded, is_guarded_within}
 use Rattle.ep_machine.specs.Files.{object_of}
@@ -11,7 +12,6 @@ use Rattle.ep_machine.specs.State.{State}
 use Rattle.ep_machine.specs.Watches.{is_exclusive}
 use Rattle.ep_law.specs.Laws.{Member, UnguardedSpread}
 use Rattle.ep_law.proofs.SpreadLemmas.{passes_same, reaching_same}
-use Rattle.ep_law.proofs.TestLemmas.{neither}
 
 -- a test of those that are left
 any_left : {X : Type 0} (p f g : X → Bool) (xs : List X) → ((x : X) → Member x xs → f x ≡ (p x && g x)) → list_any f xs ≡ list_any g (filter p xs)
@@ -25,8 +25,8 @@ any_left p f g (x ∷ xs) h =
 
 pub none_member : {X : Type 0} (f : X → Bool) (xs : List X) (x : X) → list_any f xs ≡ false → Member x xs → f x ≡ false
 none_member f [] x h m = absurd m
-none_member f (y ∷ ys) x h (inl e) = ap f e ∙ (neither (f y) (list_any f ys) h).0
-none_member f (y ∷ ys) x h (inr m) = none_member f ys x (neither (f y) (list_any f ys) h).1 m
+none_member f (y ∷ ys) x h (inl e) = ap f e ∙ (or_parts (f y) (list_any f ys) h).0
+none_member f (y ∷ ys) x h (inr m) = none_member f ys x (or_parts (f y) (list_any f ys) h).1 m
 
 module _ (s : State) (raised : List (ℕ × ℕ)) where
   abbrev plain : State

@@ -1,15 +1,15 @@
 -- Where instances are: no description comes to be an instance.
 use Rattle.std.proofs.Common.{◌≡◌, ℕ, zero, suc, Bool, true, List, [], ◌∷◌, inl, inr, refl, sym, subst, unwrap_or, ◌<◌, ◌≤◌, ◌++◌, ◌∙◌, false, None, Option, Some, ℤ, get_or, if◌then◌else◌, length, ap, arith, set, ◌==◌, ◌+◌, is_some}
 use Rattle.std.specs.List.{list_any}
-use Rattle.ep_law.proofs.DeathLemmas.{get_other, same_or_not}
-use Rattle.ep_law.proofs.TestLemmas.{or_left, or_right, same_test}
+use Rattle.ep_law.proofs.DeathLemmas.{get_other}
 use Rattle.ep_machine.specs.Files.{Files, is_live, object_of, Place, named_by, object_at, object_number, object_under, place_of, side_under, with_object}
 use Rattle.ep_machine.specs.Lists.{numbered}
 use Rattle.ep_machine.specs.Objects.{is_instance, plain, Object, ObjectCall, close_end, is_plain, object_effect}
 use Rattle.ep_object.proofs.KindLemmas.{call_keeps_instance, close_keeps_instance}
-use Rattle.ep_law.proofs.ListLemmas.{not_true}
-use Rattle.std.proofs.lemmas.Bool.{false≢true, cases_Bool}
+use Rattle.std.proofs.lemmas.Bool.{cases_Bool, false_from_ne_true, false≢true}
 use Rattle.std.proofs.lemmas.List.{get_or_append_left, length_push, length-set}
+use Rattle.ep_facts.proofs.BoolFacts.{or_left, or_right}
+use Rattle.ep_facts.proofs.NatFacts.{same_or_not, same_test}
 use Rattle.ep_base.specs.declared.object.End.{End}
 use Rattle.ep_base.specs.declared.object.End.TheVariants.{First, Second}
 use Rattle.ep_machine.specs.Deaths.{die, die_all, kept_object}
@@ -101,7 +101,7 @@ narrows_with_object f k x b keep stay =
       instances = λ d lt h. place_instance f (with_object f k x) (place_of f d) (λ j. set_instance f.objects k j (Some x) keep) h;
       dead = λ d lt h. h;
       stays = λ d h l. place_instance (with_object f k x) f (place_of f d) (λ j. set_stays f.objects k j (Some x) stay) h;
-      first = λ h. let some = h.0 in (omega (arith, same, some), not_true _ (λ t. false≢true (sym h.1 ∙ set_instance f.objects k 0 (Some x) keep t)));
+      first = λ h. let some = h.0 in (omega (arith, same, some), false_from_ne_true _ (λ t. false≢true (sym h.1 ∙ set_instance f.objects k 0 (Some x) keep t)));
     }
 
 -- A new object.
@@ -247,7 +247,7 @@ module _ (f : Files) (x : ℕ × Place) (b : AreMade f) where
         instances = λ d lt h. instance_before d (place_of g d) refl (place_instance f g (place_of g d) objects_after h);
         dead = λ d lt h. died f.descriptions x.0 d h;
         stays = λ d h l. lives_on d (place_of g d) refl l h;
-        first = λ h. let some = h.0 in (omega (arith, objects, some), not_true _ (λ t. false≢true (sym h.1 ∙ objects_after 0 t)));
+        first = λ h. let some = h.0 in (omega (arith, objects, some), false_from_ne_true _ (λ t. false≢true (sym h.1 ∙ objects_after 0 t)));
       }
 
 pub narrows_deaths : (f : Files) (raised : List (ℕ × ℕ)) (xs : List (ℕ × Place)) → AreMade f → Narrows f (die_all (f, raised) xs).0

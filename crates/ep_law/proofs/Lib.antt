@@ -1,4 +1,3 @@
-pub mod TestLemmas
 pub mod ListLemmas
 pub mod ShapeLemmas
 pub mod StepLemmas

@@ -1,11 +1,12 @@
 -- Members of lists, and distinct numbers.
-use Rattle.std.proofs.Common.{◌≡◌, ℕ, ◌&&◌, ◌||◌, Bool, true, false, cond, List, [], ◌∷◌, map, filter, refl, ap, sym, subst, ◌∙◌, inl, inr, suc, ◌≤◌, ◌==◌, ◌++◌, All, None, Option, Some, not, arith, is_some, length, nat_eq}
+use Rattle.std.proofs.Common.{◌≡◌, ℕ, ◌&&◌, ◌||◌, Bool, true, false, cond, List, [], ◌∷◌, map, filter, refl, ap, sym, subst, ◌∙◌, inl, inr, suc, take, zero, ◌⊎◌, ◌≤◌, ◌==◌, ◌++◌, All, None, Option, Some, not, arith, is_some, length, nat_eq}
 use Rattle.std.specs.List.{list_any, AllByRecursion, IsDistinct, cons_option, filter_map, list_all}
 use Rattle.ep_machine.specs.Lists.{is_among, is_empty, are_distinct}
 use Rattle.ep_law.specs.Laws.{Member}
-use Rattle.ep_law.proofs.TestLemmas.{or_left, or_right, same_test, from_test}
-use Rattle.std.proofs.lemmas.Bool.{cases_Bool}
-use Rattle.std.proofs.lemmas.Bool.Decides.{nat_tests}
+use Rattle.std.proofs.lemmas.Bool.{cases_Bool, false_from_ne_true}
+use Rattle.ep_facts.proofs.NatFacts.{from_test, not_apart, same_test}
+use Rattle.ep_facts.proofs.AmongFacts.{among_append}
+use Rattle.ep_facts.proofs.BoolFacts.{first_of_and, not_and, or_left, or_right, second_of_and}
 use Rattle.ep_machine.specs.Report.{find_watch}
 use Rattle.ep_machine.specs.State.{Watch}
 
@@ -14,6 +15,22 @@ use Rattle.ep_machine.specs.State.{Watch}
 pub any_same : {X : Type 0} (f g : X → Bool) (xs : List X) → ((x : X) → Member x xs → f x ≡ g x) → list_any f xs ≡ list_any g xs
 any_same f g [] h = refl
 any_same f g (x ∷ xs) h = let one = h x (inl refl) in let rest = any_same f g xs (λ y m. h y (inr m)) in λ i. one i || rest i
+
+pub any_has : {X : Type 0} (p : X → Bool) (xs : List X) (x : X) → Member x xs → p x ≡ true → list_any p xs ≡ true
+any_has p [] x m h = absurd m
+any_has p (y ∷ ys) x (inl e) h = or_left (p y) (list_any p ys) (ap p (sym e) ∙ h)
+any_has p (y ∷ ys) x (inr m) h = or_right (p y) (list_any p ys) (any_has p ys x m h)
+
+pub member_split : {X : Type 0} (x : X) (xs ys : List X) → Member x (xs ++ ys) → Member x xs ⊎ Member x ys
+member_split x [] ys m = inr m
+member_split x (y ∷ xs) ys (inl e) = inl (inl e)
+member_split x (y ∷ xs) ys (inr m) = elim (member_split x xs ys m) [ inl a ↦ inl (inr a) | inr b ↦ inr b ]
+
+pub taken_member : {X : Type 0} (n : ℕ) (xs : List X) (x : X) → Member x (take n xs) → Member x xs
+taken_member zero xs x m = absurd m
+taken_member (suc n) [] x m = m
+taken_member (suc n) (y ∷ ys) x (inl e) = inl e
+taken_member (suc n) (y ∷ ys) x (inr m) = inr (taken_member n ys x m)
 
 pub member_map : {X Y : Type 0} (f : X → Y) (x : X) (xs : List X) → Member x xs → Member (f x) (map f xs)
 member_map f x [] m = absurd m
@@ -38,14 +55,6 @@ pub not_empty : {X : Type 0} (x : X) (xs : List X) → Member x xs → is_empty 
 not_empty x [] m t = m
 not_empty x (y ∷ ys) m t = cc
 
-pub first_of_and : (a b : Bool) → (a && b) ≡ true → a ≡ true
-first_of_and true b h = refl
-first_of_and false b h = h
-
-pub second_of_and : (a b : Bool) → (a && b) ≡ true → b ≡ true
-second_of_and true b h = h
-second_of_and false b h = cc
-
 -- a member that passes the test
 pub any_member : {X : Type 0} (f : X → Bool) (xs : List X) → list_any f xs ≡ true → (x : X) × Member x xs × (f x ≡ true)
 any_member f [] t = cc
@@ -65,10 +74,6 @@ among_member (x ∷ ks) k h = elim (cases_Bool (k == x)) [
   | inl t ↦ inl (from_test k x t)
   | inr f ↦ inr (among_member ks k (sym (ap (λ (b : Bool). b || is_among ks k) f) ∙ h))
 ]
-
-pub among_split : (xs ys : List ℕ) (k : ℕ) → is_among (xs ++ ys) k ≡ (is_among xs k || is_among ys k)
-among_split [] ys k = refl
-among_split (x ∷ xs) ys k = elim (k == x) as (λ b. (b || is_among (xs ++ ys) k) ≡ ((b || is_among xs k) || is_among ys k)) [ true ↦ refl | false ↦ among_split xs ys k ]
 
 pub filtered_member : {X : Type 0} (p : X → Bool) (xs : List X) (x : X) → Member x (filter p xs) → Member x xs
 filtered_member p [] x m = m
@@ -142,9 +147,6 @@ apart_member n [] y h m = absurd m
 apart_member n (x ∷ xs) y h (inl e) = ap (λ (w : Watch). nat_eq n w.number) e ∙ h.0
 apart_member n (x ∷ xs) y h (inr m) = apart_member n xs y h.1 m
 
-not_apart : (a b : ℕ) → nat_eq a b ≡ false → a ≡ b → ⊥
-not_apart a b h e = grind (arith, nat_tests, h, e)
-
 -- a number has one registration
 pub one_number : (xs : List Watch) (x y : Watch) → IsDistinct nat_eq (map (λ w. w.number) xs) → Member x xs → Member y xs → x.number ≡ y.number → x ≡ y
 unfolding IsDistinct
@@ -153,13 +155,6 @@ one_number (w ∷ xs) x y h (inl a) (inl b) e = a ∙ sym b
 one_number (w ∷ xs) x y h (inl a) (inr n) e = absurd (not_apart w.number y.number (apart_member w.number xs y h.0 n) (sym (ap (λ (z : Watch). z.number) a) ∙ e))
 one_number (w ∷ xs) x y h (inr m) (inl b) e = absurd (not_apart w.number x.number (apart_member w.number xs x h.0 m) (sym (ap (λ (z : Watch). z.number) b) ∙ sym e))
 one_number (w ∷ xs) x y h (inr m) (inr n) e = one_number xs x y h.1 m n e
-
-pub not_true : (a : Bool) → (a ≡ true → ⊥) → a ≡ false
-not_true true h = absurd (h refl)
-not_true false h = refl
-
-both : (a b : Bool) → a ≡ false → b ≡ true → (not a && b) ≡ true
-both a b h k = ap (λ (x : Bool). not x && b) h ∙ k
 
 is_not : (a b : Bool) → (not a && b) ≡ true → a ≡ false
 is_not true b h = cc
@@ -173,13 +168,13 @@ distinct_filtered p [] h = refl
 distinct_filtered p (k ∷ ks) h =
     let rest = distinct_filtered p ks (second_of_and (not (is_among ks k)) (are_distinct ks) h) in
     let new = is_not (is_among ks k) (are_distinct ks) h in
-    let fresh : is_among (filter p ks) k ≡ false = not_true _ (λ t. false_is_true _ new (among k ks (filtered_member p ks k (among_member (filter p ks) k t)))) in
-    elim (p k) as (λ b. are_distinct (cond b (k ∷ filter p ks) (filter p ks)) ≡ true) [ true ↦ both _ _ fresh rest | false ↦ rest ]
+    let fresh : is_among (filter p ks) k ≡ false = false_from_ne_true _ (λ t. false_is_true _ new (among k ks (filtered_member p ks k (among_member (filter p ks) k t)))) in
+    elim (p k) as (λ b. are_distinct (cond b (k ∷ filter p ks) (filter p ks)) ≡ true) [ true ↦ not_and _ _ fresh rest | false ↦ rest ]
 
 pub distinct_append : (xs ys : List ℕ) → are_distinct xs ≡ true → are_distinct ys ≡ true → ((k : ℕ) → is_among xs k ≡ true → is_among ys k ≡ true → ⊥) → are_distinct (xs ++ ys) ≡ true
 distinct_append [] ys h k apart = k
 distinct_append (x ∷ xs) ys h k apart =
     let rest = distinct_append xs ys (second_of_and (not (is_among xs x)) (are_distinct xs) h) k (λ j a b. apart j (among j (x ∷ xs) (inr (among_member xs j a))) b) in
     let here : is_among (x ∷ xs) x ≡ true = among x (x ∷ xs) (inl refl) in
-    let new : is_among (xs ++ ys) x ≡ false = among_split xs ys x ∙ (ap (λ (b : Bool). b || is_among ys x) (is_not (is_among xs x) (are_distinct xs) h) ∙ not_true _ (λ t. apart x here t)) in
-    both _ _ new rest
+    let new : is_among (xs ++ ys) x ≡ false = among_append xs ys x ∙ (ap (λ (b : Bool). b || is_among ys x) (is_not (is_among xs x) (are_distinct xs) h) ∙ false_from_ne_true _ (λ t. apart x here t)) in
+    not_and _ _ new rest

@@ -1,7 +1,6 @@
 -- No waiter is forgotten, and what is marked stays as it is.
 use Rattle.std.proofs.Common.{◌≡◌, ℕ, suc, ◌==◌, ◌&&◌, ◌||◌, ◌∙◌, All, Bool, true, false, List, [], ◌∷◌, not, inl, inr, map, refl, ap, arith, sym, zero, ◌+◌, None, Option, Some, MatchOption, subst}
 use Rattle.std.proofs.lemmas.Bool.{cases_Bool}
-use Rattle.std.proofs.lemmas.Bool.Decides.{nat_tests}
 use Rattle.std.proofs.lemmas.List.Elements.{All-cons, All-map}
 use Rattle.ep_law.specs.Laws.{Member, ReadyMarked, WokenMarked}
 use Rattle.ep_machine.specs.Marks.{first_marked, marked_by, with_marks}
@@ -10,8 +9,9 @@ use Rattle.ep_machine.specs.Readiness.{is_ready, is_ready_within, is_reportable_
 use Rattle.ep_machine.specs.Watches.{is_exclusive}
 use Rattle.ep_machine.specs.State.{State, Waiter, Change, opening}
 use Rattle.ep_machine.specs.Waits.{is_due, is_marked_at, marked_if_due, waits_at}
-use Rattle.ep_law.proofs.TestLemmas.{from_test, or_left, or_right}
 use Rattle.std.specs.List.{list_any}
+use Rattle.ep_facts.proofs.BoolFacts.{or_left, or_right}
+use Rattle.ep_facts.proofs.NatFacts.{from_test, same_test}
 use Rattle.ep_base.specs.Limits.{Limits}
 use Rattle.ep_base.specs.declared.answer.Answer.{Answer}
 use Rattle.ep_base.specs.declared.call.Event.{Event}
@@ -115,9 +115,7 @@ module _ (r : ℕ → Bool) where
 
   waits_where : (w : Waiter) (ws : List Waiter) → Member w ws → waits_at ws w.instance ≡ true
   waits_where w [] m = absurd m
-  waits_where w (v ∷ ws) (inl e) = or_left _ _ (same_test v.instance w.instance (ap (λ (x : Waiter). x.instance) (sym e))) where
-    same_test : (a b : ℕ) → a ≡ b → (a == b) ≡ true
-    same_test a b e = grind (arith, nat_tests, e)
+  waits_where w (v ∷ ws) (inl e) = or_left _ _ (same_test v.instance w.instance (ap (λ (x : Waiter). x.instance) (sym e)))
   waits_where w (v ∷ ws) (inr m) = or_right _ _ (waits_where w ws m)
 
   unchanged_by : (q : ℕ → Bool) (all before ws : List Waiter) → ((w : Waiter) → Member w ws → q w.instance ≡ true → is_marked_at all w.instance ≡ true) → first_marked q all before ws ≡ ws

@@ -5,6 +5,8 @@ use Rattle.std.specs.Int.{bit_at}
 use Rattle.std.proofs.lemmas.Bool.{false≢true}
 use Rattle.std.proofs.lemmas.Bool.Decides.{nat_tests}
 use Rattle.std.proofs.lemmas.Nat.Bits.{and_pow, bit_at_and, bit_at-lt, bit_at-zero, same_from_bits}
+use Rattle.std.proofs.Math.Bool.{or-true}
+use Rattle.ep_facts.proofs.NatFacts.{plus_none}
 use Rattle.ep_base.specs.declared.counts.Counts.{Counts}
 use Rattle.ep_machine.specs.Bits.{ERR, HUP, IN, OUT, RDHUP, asked, has_bit, union, when}
 use Rattle.ep_machine.specs.Counts.{arrived_since, counted, every_shown_bit}
@@ -14,9 +16,6 @@ use Rattle.ep_object.proofs.BitLemmas.{Covers, zero_or_one}
 pub none_or_some : (n : ℕ) → (n ≡ 0) ⊎ (nat_lt 0 n ≡ true)
 none_or_some zero = inl refl
 none_or_some (suc n) = inr (grind (arith, nat_tests))
-
-pub no_some : (n : ℕ) → nat_lt 0 n ≡ false → n ≡ 0
-no_some n h = grind (arith, nat_tests, h)
 
 -- a bit that is set makes a number positive
 pub some_bit : (n i : ℕ) → bit_at n i ≡ 1 → nat_lt 0 n ≡ true
@@ -73,21 +72,15 @@ bit_of n k w e h = elim (zero_or_one n k) [
 ]
 
 -- One count.
-plus : (k : ℕ) → k ≡ k + 0
-plus k = omega arith
 
 one_count : (x y : Bool) (o n : ℕ) → (x && nat_lt o (n + when y 1)) ≡ true → ((x && nat_lt o n) ≡ true) ⊎ ((x ≡ true) × (y ≡ true))
 one_count true true o n h = inr (refl, refl)
-one_count true false o n h = inl (ap (nat_lt o) (plus n) ∙ h)
+one_count true false o n h = inl (ap (nat_lt o) (plus_none n) ∙ h)
 one_count false y o n h = inl h
-
-last : (z : Bool) → (z || true) ≡ true
-last true = refl
-last false = refl
 
 either : (P : Type 0) (a b c d : Bool) → (c ≡ true → (a ≡ true) ⊎ P) → (d ≡ true → (b ≡ true) ⊎ P) → (c || d) ≡ true → ((a || b) ≡ true) ⊎ P
 either P a b true d f g h = elim (f refl) [ inl e ↦ inl (ap (λ (z : Bool). z || b) e) | inr p ↦ inr p ]
-either P a b false d f g h = elim (g h) [ inl e ↦ inl (ap (λ (z : Bool). a || z) e ∙ last a) | inr p ↦ inr p ]
+either P a b false d f g h = elim (g h) [ inl e ↦ inl (ap (λ (z : Bool). a || z) e ∙ or-true a) | inr p ↦ inr p ]
 
 module _ (mask raised : ℕ) where
   abbrev bits : ℕ

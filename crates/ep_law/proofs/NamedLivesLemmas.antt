@@ -3,13 +3,15 @@ use Rattle.std.proofs.Common.{◌≡◌, ◌∙◌, ◌+◌, ◌<◌, ◌==◌, 
 use Rattle.std.specs.List.{AllByRecursion}
 use Rattle.std.proofs.lemmas.Bool.{cases_Bool, false≢true}
 use Rattle.std.proofs.lemmas.Bool.Decides.{nat_tests}
+use Rattle.std.proofs.Math.Bool.{or-true}
+use Rattle.std.proofs.Math.Nat.{zero-add}
+use Rattle.ep_facts.proofs.NatFacts.{less_apart, plus_none, same_nat, same_or_not, shift, test_apart}
 use Rattle.ep_machine.specs.Deaths.{dying, named}
 use Rattle.ep_machine.specs.Files.{Files, Place, is_live, place_of}
 use Rattle.ep_law.specs.Laws.{NamedLives}
 use Rattle.ep_machine.specs.Lists.{are_distinct, is_among, numbered}
 use Rattle.ep_machine.specs.State.{State}
-use Rattle.ep_law.proofs.DeathLemmas.{ArePlaced, after_all, after_first, apart_from_rest, differs, get_place, numbers, raised_before, same_or_not, still_placed}
-use Rattle.ep_law.proofs.TestLemmas.{same_nat}
+use Rattle.ep_law.proofs.DeathLemmas.{ArePlaced, after_all, after_first, apart_from_rest, get_place, numbers, raised_before, still_placed}
 
 pub get_none : (xs : List (Option Place)) (k : ℕ) → get_or (set xs k None) k None ≡ None
 get_none [] k = refl
@@ -22,7 +24,7 @@ place_after f x d = elim (same_or_not d x.0) [
       subst (λ (m : ℕ). get_or (set f.descriptions x.0 None) m None ≡ (if (m == x.0) || false then None else place_of f m)) (sym e)
       (get_none f.descriptions x.0 ∙ ap (λ (b : Bool). if b || false then None else place_of f x.0) (sym (same_nat x.0)))
   | inr ne ↦
-      get_place f.descriptions x.0 d None (λ e. ne (sym e)) ∙ ap (λ (b : Bool). if b || false then None else place_of f d) (sym (differs d x.0 ne))
+      get_place f.descriptions x.0 d None (λ e. ne (sym e)) ∙ ap (λ (b : Bool). if b || false then None else place_of f d) (sym (test_apart d x.0 ne))
 ]
 
 pub if_twice : (a b : Bool) (o : Option Place) → (if b then None else (if a || false then None else o)) ≡ (if a || b then None else o)
@@ -48,21 +50,14 @@ module _ (test : ℕ → Bool) where
 
   chosen_placed : (whole : List (Option Place)) (k : ℕ) (ds : List (Option Place)) → ((i : ℕ) → get_or whole (k + i) None ≡ get_or ds i None) → AllByRecursion (λ (x : ℕ × Place). get_or whole x.0 None ≡ Some x.1) (chosen k ds)
   chosen_placed whole k [] same = tt
-  chosen_placed whole k (None ∷ ds) same = chosen_placed whole (k + 1) ds (λ i. ap (λ (j : ℕ). get_or whole j None) (shift k i) ∙ same (suc i)) where
-    shift : (a b : ℕ) → a + 1 + b ≡ a + suc b
-    shift a b = omega arith
+  chosen_placed whole k (None ∷ ds) same = chosen_placed whole (k + 1) ds (λ i. ap (λ (j : ℕ). get_or whole j None) (shift k i) ∙ same (suc i))
   chosen_placed whole k (Some p ∷ ds) same =
       let rest = chosen_placed whole (k + 1) ds (λ i. ap (λ (j : ℕ). get_or whole j None) (shift k i) ∙ same (suc i)) in
-      let first : get_or whole k None ≡ Some p = ap (λ (j : ℕ). get_or whole j None) (start k) ∙ same 0 in
+      let first : get_or whole k None ≡ Some p = ap (λ (j : ℕ). get_or whole j None) (plus_none k) ∙ same 0 in
       elim (test k) as (λ b. AllByRecursion (λ (x : ℕ × Place). get_or whole x.0 None ≡ Some x.1) (cond (not b) ((k, p) ∷ chosen (k + 1) ds) (chosen (k + 1) ds))) [
         | true ↦ rest
         | false ↦ (first, rest)
-      ] where
-        shift : (a b : ℕ) → a + 1 + b ≡ a + suc b
-        shift a b = omega arith
-
-        start : (a : ℕ) → a ≡ a + 0
-        start a = omega arith
+      ]
 
   -- each chosen number is at least the first
   chosen_from : (k : ℕ) (ds : List (Option Place)) (d : ℕ) → d < k → is_among (numbers (chosen k ds)) d ≡ false
@@ -72,10 +67,8 @@ module _ (test : ℕ → Bool) where
       let rest = chosen_from (k + 1) ds d (omega (arith, lt)) in
       elim (test k) as (λ b. is_among (numbers (cond (not b) ((k, p) ∷ chosen (k + 1) ds) (chosen (k + 1) ds))) d ≡ false) [
         | true ↦ rest
-        | false ↦ ap (λ (b : Bool). b || is_among (numbers (chosen (k + 1) ds)) d) (differs d k (λ e. less d k lt e)) ∙ rest
-      ] where
-        less : (a b : ℕ) → a < b → a ≡ b → ⊥
-        less a b l e = absurd (omega (arith, l, e))
+        | false ↦ ap (λ (b : Bool). b || is_among (numbers (chosen (k + 1) ds)) d) (test_apart d k (λ e. less_apart d k lt e)) ∙ rest
+      ]
 
   chosen_distinct : (k : ℕ) (ds : List (Option Place)) → are_distinct (numbers (chosen k ds)) ≡ true
   chosen_distinct k [] = refl
@@ -106,37 +99,24 @@ module _ (test : ℕ → Bool) where
   is_chosen : (k : ℕ) (ds : List (Option Place)) (i : ℕ) → is_some (get_or ds i None) ≡ true → test (k + i) ≡ false → is_among (numbers (chosen k ds)) (k + i) ≡ true
   is_chosen k [] i live h = absurd (false≢true live)
   is_chosen k (None ∷ ds) zero live h = absurd (false≢true live)
-  is_chosen k (None ∷ ds) (suc i) live h = subst (λ (j : ℕ). is_among (numbers (chosen (k + 1) ds)) j ≡ true) (shift k i) (is_chosen (k + 1) ds i live (ap test (shift k i) ∙ h)) where
-    shift : (a b : ℕ) → a + 1 + b ≡ a + suc b
-    shift a b = omega arith
+  is_chosen k (None ∷ ds) (suc i) live h = subst (λ (j : ℕ). is_among (numbers (chosen (k + 1) ds)) j ≡ true) (shift k i) (is_chosen (k + 1) ds i live (ap test (shift k i) ∙ h))
   is_chosen k (Some p ∷ ds) zero live h =
-      let e : test k ≡ false = ap test (start k) ∙ h in
+      let e : test k ≡ false = ap test (plus_none k) ∙ h in
       ap (λ (b : Bool). is_among (numbers (cond (not b) ((k, p) ∷ chosen (k + 1) ds) (chosen (k + 1) ds))) (k + 0)) e
       ∙ ap (λ (b : Bool). b || is_among (numbers (chosen (k + 1) ds)) (k + 0)) (same_start k) where
-        start : (a : ℕ) → a ≡ a + 0
-        start a = omega arith
-
         same_start : (a : ℕ) → (a + 0 == a) ≡ true
-        same_start a = ap (λ (n : ℕ). n == a) (sym (start a)) ∙ same_nat a
+        same_start a = ap (λ (n : ℕ). n == a) (sym (plus_none a)) ∙ same_nat a
   is_chosen k (Some p ∷ ds) (suc i) live h =
       let rest = subst (λ (j : ℕ). is_among (numbers (chosen (k + 1) ds)) j ≡ true) (shift k i) (is_chosen (k + 1) ds i live (ap test (shift k i) ∙ h)) in
       elim (test k) as (λ b. is_among (numbers (cond (not b) ((k, p) ∷ chosen (k + 1) ds) (chosen (k + 1) ds))) (k + suc i) ≡ true) [
         | true ↦ rest
-        | false ↦ ap (λ (b : Bool). (k + suc i == k) || b) rest ∙ or_true (k + suc i == k)
-      ] where
-        shift : (a b : ℕ) → a + 1 + b ≡ a + suc b
-        shift a b = omega arith
-
-        or_true : (b : Bool) → (b || true) ≡ true
-        or_true true = refl
-        or_true false = refl
+        | false ↦ ap (λ (b : Bool). (k + suc i == k) || b) rest ∙ or-true (k + suc i == k)
+      ]
 
 -- the dying of a state
 module _ (s : State) where
   pub dying_placed : ArePlaced s.files (dying s)
-  dying_placed = chosen_placed (is_among (named s)) s.files.descriptions 0 s.files.descriptions (λ i. ap (λ (j : ℕ). get_or s.files.descriptions j None) (zero_plus i)) where
-    zero_plus : (i : ℕ) → 0 + i ≡ i
-    zero_plus i = omega arith
+  dying_placed = chosen_placed (is_among (named s)) s.files.descriptions 0 s.files.descriptions (λ i. ap (λ (j : ℕ). get_or s.files.descriptions j None) (zero-add i))
 
   pub dying_distinct : are_distinct (numbers (dying s)) ≡ true
   dying_distinct = chosen_distinct (is_among (named s)) 0 s.files.descriptions
@@ -145,9 +125,7 @@ module _ (s : State) where
   dying_unnamed d h = not_test (is_among (named s)) d (numbered 0 s.files.descriptions) h
 
   pub unnamed_dying : (d : ℕ) → is_live s.files d ≡ true → is_among (named s) d ≡ false → is_among (numbers (dying s)) d ≡ true
-  unnamed_dying d live h = subst (λ (j : ℕ). is_among (numbers (dying s)) j ≡ true) (zero_plus d) (is_chosen (is_among (named s)) 0 s.files.descriptions d live (ap (is_among (named s)) (zero_plus d) ∙ h)) where
-    zero_plus : (i : ℕ) → 0 + i ≡ i
-    zero_plus i = omega arith
+  unnamed_dying d live h = subst (λ (j : ℕ). is_among (numbers (dying s)) j ≡ true) (zero-add d) (is_chosen (is_among (named s)) 0 s.files.descriptions d live (ap (is_among (named s)) (zero-add d) ∙ h))
 
 not_live : (b : Bool) (o : Option Place) → is_some o ≡ false → is_some (if b then None else o) ≡ false
 not_live true o h = refl

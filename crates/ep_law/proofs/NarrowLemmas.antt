@@ -1,10 +1,12 @@
 -- What an event wakes is what its spread reaches if only the chosen ones of the exclusive registrations pass on.
-use Rattle.std.proofs.Common.{◌≡◌, ℕ, ◌==◌, ◌&&◌, ◌||◌, ◌∙◌, ◌⊎◌, ◌*◌, ◌^◌, Bool, true, false, List, [], ◌∷◌, None, Option, Some, not, nat_lt, inl, inr, refl, ap, arith, cond, filter, subst, sym}
+use Rattle.std.proofs.Common.{◌≡◌, ℕ, ◌==◌, ◌&&◌, ◌||◌, ◌∙◌, ◌*◌, ◌^◌, Bool, true, false, List, [], ◌∷◌, None, Option, Some, not, nat_lt, inl, inr, refl, ap, arith, cond, filter, subst, sym}
 use Rattle.std.specs.List.{find, list_any}
 use Rattle.std.specs.Int.{bit_at}
 use Rattle.std.specs.Int.Bits.{and_zero_l}
 use Rattle.std.proofs.lemmas.Bool.{cases_Bool, false≢true}
 use Rattle.std.proofs.lemmas.Nat.Bits.{and_pow, bit_at-zero}
+use Rattle.ep_facts.proofs.NatFacts.{from_test, same_nat}
+use Rattle.ep_facts.proofs.BoolFacts.{first_of_and, or_cases, or_left, or_right, same_bools, second_of_and}
 use Rattle.ep_machine.specs.Bits.{ERR, HUP, IN, asked, has_bit, union, when}
 use Rattle.ep_machine.specs.Exclusive.{chosen_at, finds_waiter, is_asked_at, is_left, is_spread_plainly, is_spread_to, is_up_from, is_up_from_chosen, is_woken}
 use Rattle.ep_machine.specs.Files.{object_of}
@@ -15,12 +17,11 @@ use Rattle.ep_law.specs.Laws.{Member, has_instance}
 use Rattle.ep_law.specs.Narrow.{IsRegular, WokenIsNarrowed, is_chosen, is_number_of, narrowed}
 use Rattle.ep_object.proofs.BitLemmas.{Covers, either_bit, first_bit, last_bit}
 use Rattle.ep_law.proofs.GraphLemmas.{legal_within, link_from, link_in}
-use Rattle.ep_law.proofs.ListLemmas.{any_member, filtered_member, filtered_passes, first_of_and, member_filter, one_number, second_of_and}
+use Rattle.ep_law.proofs.ListLemmas.{any_has, any_member, filtered_member, filtered_passes, member_filter, one_number}
 use Rattle.ep_law.proofs.MaskLemmas.{asked_begins, bit_of, none_or_some}
 use Rattle.ep_law.proofs.RaiseLemmas.{raised_member}
-use Rattle.ep_law.proofs.ReachLemmas.{any_has, in_bit, instance_is}
+use Rattle.ep_law.proofs.ReachLemmas.{in_bit, instance_is}
 use Rattle.ep_law.proofs.SpreadLemmas.{reached_equation, spread_least}
-use Rattle.ep_law.proofs.TestLemmas.{from_test, or_left, or_right, same_nat}
 
 -- Bits.
 not_set : (n i : ℕ) → n ≡ 0 → bit_at n i ≡ 1 → ⊥
@@ -38,15 +39,6 @@ more_asked mask bits more within h = let m = union (mask ∷ ERR ∷ HUP ∷ [])
 
 none_asked : (mask : ℕ) → nat_lt 0 (asked mask 0) ≡ true → ⊥
 none_asked mask h = false≢true (ap (nat_lt 0) (sym (and_zero_l (union (mask ∷ ERR ∷ HUP ∷ [])))) ∙ h)
-
-same_bools : (a b : Bool) → (a ≡ true → b ≡ true) → (b ≡ true → a ≡ true) → a ≡ b
-same_bools true b f g = sym (f refl)
-same_bools false true f g = g refl
-same_bools false false f g = refl
-
-pub either_or : (a b : Bool) → (a || b) ≡ true → (a ≡ true) ⊎ (b ≡ true)
-either_or true b h = inl refl
-either_or false b h = inr h
 
 -- some of the registrations make a legal graph, too
 legal_left : (s : State) (p : Watch → Bool) → is_legal (links s) ≡ true → is_legal (links (record s { watches = filter p s.watches })) ≡ true
@@ -152,7 +144,7 @@ module _ (s : State) (raised : List (ℕ × ℕ)) (ws : List Waiter) (regular : 
   covers_above x bits n armed asks below i at_in =
       let m = filtered_member (λ y. not (is_exclusive y) || is_chosen s raised ws y) s.watches x n in
       let passes = filtered_passes (λ y. not (is_exclusive y) || is_chosen s raised ws y) s.watches x n in
-      elim (either_or (not (is_exclusive x)) (is_chosen s raised ws x) passes) [
+      elim (or_cases (not (is_exclusive x)) (is_chosen s raised ws x) passes) [
         | inr chosen ↦ inr (when_in (up x.instance) i (up_here x (is_chosen_one x m chosen)) at_in)
         | inl plainly ↦ elim (none_or_some (asked x.mask (spread plain raised x.target))) [
           | inr some ↦
@@ -255,7 +247,7 @@ module _ (s : State) (raised : List (ℕ × ℕ)) (ws : List Waiter) (regular : 
 
   pub woken_is_narrowed : (before : State) (e : ℕ) → is_woken before s raised ws e ≡ (is_spread_to few raised e || is_left before s e)
   woken_is_narrowed before e = ap (λ (b : Bool). b || is_left before s e)
-      (same_bools (is_spread_plainly s raised e || up e) (is_spread_to few raised e) (λ h. elim (either_or (is_spread_plainly s raised e) (up e) h) [ inl a ↦ from_plainly e a | inr b ↦ from_chosen e b ]) (forwards e))
+      (same_bools (is_spread_plainly s raised e || up e) (is_spread_to few raised e) (λ h. elim (or_cases (is_spread_plainly s raised e) (up e) h) [ inl a ↦ from_plainly e a | inr b ↦ from_chosen e b ]) (forwards e))
 
 pub narrowed_law : WokenIsNarrowed
 narrowed_law before s raised ws e regular = woken_is_narrowed s raised ws regular before e

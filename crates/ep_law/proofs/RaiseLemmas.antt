@@ -1,9 +1,10 @@
 -- What deaths raise: each bit that begins to hold where an end is closed.
-use Rattle.std.proofs.Common.{◌≡◌, ℕ, zero, suc, ◌+◌, ◌<◌, ◌==◌, ◌++◌, ◌∙◌, Bool, true, false, List, [], ◌∷◌, None, Option, Some, cond, get_or, inl, inr, is_some, length, refl, ap, arith, set, subst, sym, unwrap_or}
+use Rattle.std.proofs.Common.{◌≡◌, ℕ, zero, suc, ◌+◌, ◌<◌, ◌==◌, ◌++◌, ◌∙◌, Bool, true, false, List, [], ◌∷◌, None, Option, Some, cond, get_or, inl, inr, is_some, length, refl, ap, set, subst, sym, unwrap_or}
 use Rattle.std.specs.Int.{bit_at}
 use Rattle.std.proofs.lemmas.Bool.{false≢true}
-use Rattle.std.proofs.lemmas.Bool.Decides.{nat_tests}
 use Rattle.std.proofs.lemmas.List.{get_or-set_same}
+use Rattle.std.proofs.Math.Nat.{add-zero, zero-add}
+use Rattle.ep_facts.proofs.NatFacts.{from_test, same_nat, same_or_not, same_test, shift}
 use Rattle.ep_base.specs.declared.object.Raised.{Raised}
 use Rattle.ep_machine.specs.Bits.{at_end, when}
 use Rattle.ep_machine.specs.Deaths.{die, die_all, kept_object}
@@ -14,9 +15,8 @@ use Rattle.ep_machine.specs.Objects.{Object, close_end, object_present, plain}
 use Rattle.ep_law.proofs.Present.{present_at}
 use Rattle.ep_machine.specs.Spread.{raised_alive, raised_of}
 use Rattle.ep_machine.specs.State.{State}
-use Rattle.ep_law.proofs.DeathLemmas.{ArePlaced, after_all, apart_from_rest, get_other, numbers, same_or_not, still_placed}
+use Rattle.ep_law.proofs.DeathLemmas.{ArePlaced, after_all, apart_from_rest, get_other, numbers, still_placed}
 use Rattle.ep_law.proofs.ListLemmas.{member_filter, member_map}
-use Rattle.ep_law.proofs.TestLemmas.{from_test, same_nat}
 use Rattle.ep_object.specs.Law.{CloseLaw, object_has}
 use Rattle.ep_object.proofs.BitLemmas.{Covers, covers_more, covers_self, covers_then, either_bit, first_bit, last_bit, no_bit, to_bits}
 use Rattle.ep_object.proofs.KindLemmas.{close_has}
@@ -54,27 +54,15 @@ raised_stays s (x ∷ xs) d i lives h = elim (either_bit (when (x.0 == d) x.1) (
       elim (is_live s.files x.0) as (λ c. bit_at (raised_of (cond c (x ∷ raised_alive s xs) (raised_alive s xs)) d) i ≡ 1) [ true ↦ last_bit _ _ i rest | false ↦ rest ]
 ]
 
-shift : (n i : ℕ) → n + 1 + i ≡ n + suc i
-shift n i = omega arith
-
-start : (n : ℕ) → n + 0 ≡ n
-start n = omega arith
-
 numbered_member : (n : ℕ) (ds : List (Option Place)) (i : ℕ) (p : Place) → get_or ds i None ≡ Some p → Member (n + i, p) (numbered n ds)
 numbered_member n [] i p e = cc
 numbered_member n (None ∷ ds) zero p e = cc
 numbered_member n (None ∷ ds) (suc i) p e = subst (λ (k : ℕ). Member (k, p) (numbered (n + 1) ds)) (shift n i) (numbered_member (n + 1) ds i p e)
-numbered_member n (Some q ∷ ds) zero p e = let same : q ≡ p = cc in inl (λ j. (start n j, sym same j))
+numbered_member n (Some q ∷ ds) zero p e = let same : q ≡ p = cc in inl (λ j. (add-zero n j, sym same j))
 numbered_member n (Some q ∷ ds) (suc i) p e = inr (subst (λ (k : ℕ). Member (k, p) (numbered (n + 1) ds)) (shift n i) (numbered_member (n + 1) ds i p e))
 
-zero_plus : (d : ℕ) → 0 + d ≡ d
-zero_plus d = omega arith
-
 pub live_member : (f : Files) (d : ℕ) (p : Place) → place_of f d ≡ Some p → Member (d, p) (live f)
-live_member f d p e = subst (λ (k : ℕ). Member (k, p) (live f)) (zero_plus d) (numbered_member 0 f.descriptions d p e)
-
-same_test : (a b : ℕ) → a ≡ b → (a == b) ≡ true
-same_test a b e = grind (arith, nat_tests, e)
+live_member f d p e = subst (λ (k : ℕ). Member (k, p) (live f)) (zero-add d) (numbered_member 0 f.descriptions d p e)
 
 pub raised_there : (f : Files) (k : ℕ) (r : Raised) (d : ℕ) (p : Place) (i : ℕ) → place_of f d ≡ Some p → p.object ≡ k → bit_at (at_end r p.side) i ≡ 1 → bit_at (raised_of (raised_at f k r) d) i ≡ 1
 raised_there f k r d p i here at h =

@@ -1,10 +1,11 @@
 -- Between two states: where an instance begins to be ready, what was raised reaches it.
-use Rattle.std.proofs.Common.{◌≡◌, ℕ, zero, suc, ◌==◌, ◌<◌, ◌&&◌, ◌||◌, ◌∙◌, ◌⊎◌, Bool, true, false, List, [], ◌∷◌, None, Option, Some, not, nat_lt, inl, inr, max, refl, ap, arith, subst, sym, unwrap_or}
-use Rattle.std.specs.List.{list_any}
+use Rattle.std.proofs.Common.{◌≡◌, ℕ, zero, suc, ◌==◌, ◌<◌, ◌&&◌, ◌||◌, ◌∙◌, ◌⊎◌, Bool, true, false, List, None, Option, Some, not, nat_lt, inl, inr, max, refl, ap, arith, subst, sym, unwrap_or}
 use Rattle.std.specs.Int.{bit_at}
 use Rattle.std.proofs.lemmas.Bool.{cases_Bool, false≢true}
 use Rattle.std.proofs.lemmas.Bool.Decides.{nat_tests}
 use Rattle.std.proofs.lemmas.Nat.Bits.{bit_at_or, bit_at-lt, bit_at-zero, bit_at-pow_other}
+use Rattle.ep_facts.proofs.BoolFacts.{first_of_and, second_of_and}
+use Rattle.ep_facts.proofs.NatFacts.{from_test, same_nat, zero_of}
 use Rattle.ep_base.specs.declared.counts.Counts.{Counts}
 use Rattle.ep_machine.specs.Bits.{ET, IN, asked, has_bit, when}
 use Rattle.ep_machine.specs.Counts.{counted, every_shown_bit}
@@ -17,10 +18,9 @@ use Rattle.ep_machine.specs.State.{State, Watch, counts_of}
 use Rattle.ep_machine.specs.Watches.{is_legal, links}
 use Rattle.ep_law.proofs.SpreadLemmas.{reached_equation}
 use Rattle.ep_law.proofs.ReadinessLemmas.{ready_equation}
-use Rattle.ep_law.proofs.ListLemmas.{any_member, first_of_and, second_of_and}
-use Rattle.ep_law.proofs.TestLemmas.{from_test}
+use Rattle.ep_law.proofs.ListLemmas.{any_has, any_member}
 use Rattle.ep_object.proofs.BitLemmas.{Covers}
-use Rattle.ep_law.proofs.MaskLemmas.{asked_begins, fresh_begins, no_some, not_fresh}
+use Rattle.ep_law.proofs.MaskLemmas.{asked_begins, fresh_begins, not_fresh}
 
 -- what was raised holds IN at this instance
 abbrev pub HasIn : State → List (ℕ × ℕ) → ℕ → Type 0
@@ -68,14 +68,6 @@ second_max (suc (suc a)) lt = absurd (omega (arith, lt))
 if_some : (b : Bool) (n : ℕ) → nat_lt 0 (when b n) ≡ true → (b ≡ true) × (nat_lt 0 n ≡ true)
 if_some true n h = (refl, h)
 if_some false n h = absurd (false≢true h)
-
-pub any_has : {X : Type 0} (f : X → Bool) (xs : List X) (x : X) → Member x xs → f x ≡ true → list_any f xs ≡ true
-any_has f [] x m t = absurd m
-any_has f (y ∷ ys) x (inl e) t = ap (λ (b : Bool). b || list_any f ys) (sym (ap f e) ∙ t)
-any_has f (y ∷ ys) x (inr m) t = ap (λ (b : Bool). f y || b) (any_has f ys x m t) ∙ last (f y) where
-  last : (b : Bool) → (b || true) ≡ true
-  last true = refl
-  last false = refl
 
 neither : (a b : Bool) → (not a || b) ≡ false → (a ≡ true) × (b ≡ false)
 neither true b h = (refl, h)
@@ -126,7 +118,7 @@ module _ (u left t : State) (raised : List (ℕ × ℕ)) (given : Leads u left t
               ]
               | inr asks ↦ asks
             ]
-        | inr none ↦ asked_begins _ (present u d) (present_by r t d) up (covers r below d lived lives) (no_some _ none) armed_some.1
+        | inr none ↦ asked_begins _ (present u d) (present_by r t d) up (covers r below d lived lives) (zero_of _ none) armed_some.1
       ] in
       λ i. armed_some.0 i && asks i
 
@@ -139,9 +131,7 @@ module _ (u left t : State) (raised : List (ℕ × ℕ)) (given : Leads u left t
       ap (reaching_of (is_reached left raised) e) (sym (given.same e) ∙ here) ∙ ap (λ (b : Bool). when b IN) reached in
       bit_at_or (raised_of raised e) (reaching_of (is_reached left raised) e (object_of left.files e)) 0
       ∙ (ap (λ (n : ℕ). max (bit_at (raised_of raised e) 0) (bit_at n 0)) reaching
-      ∙ second_max (bit_at (raised_of raised e) 0) (bit_at-lt (raised_of raised e) 0)) where
-        same_nat : (n : ℕ) → (n == n) ≡ true
-        same_nat n = grind (arith, nat_tests)
+      ∙ second_max (bit_at (raised_of raised e) 0) (bit_at-lt (raised_of raised e) 0))
 
   pub reach : (k : ℕ) → IsReachedBy (is_ready_within k t)
   reach zero e here ready silent = absurd (false≢true ready)

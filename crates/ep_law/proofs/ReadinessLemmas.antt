@@ -1,6 +1,7 @@
 -- Five levels are enough where the graph of instances is legal.
 use Rattle.std.proofs.Common.{◌≡◌, ℕ, zero, suc, ◌==◌, ◌&&◌, ◌||◌, Bool, true, false, not, List, Option, Some, None, refl, ap, sym, subst, unwrap_or, nat_lt}
 use Rattle.std.specs.List.{list_any}
+use Rattle.ep_facts.proofs.NatFacts.{from_test}
 use Rattle.ep_base.specs.declared.object.End.{End}
 use Rattle.ep_machine.specs.Bits.{IN, ET, when, asked, has_bit}
 use Rattle.ep_machine.specs.Lists.{is_among}
@@ -11,7 +12,6 @@ use Rattle.ep_machine.specs.Readiness.{present_of, is_reportable_by, is_fresh, i
 use Rattle.ep_machine.specs.Watches.{links, ends_of_chains, is_legal}
 use Rattle.ep_law.specs.Laws.{Member}
 use Rattle.ep_law.proofs.ListLemmas.{any_same, member_map, member_filter, among, not_empty}
-use Rattle.ep_law.proofs.TestLemmas.{from_test}
 
 -- a chain of that many links goes down from an instance
 abbrev pub Goes : ℕ → List (ℕ × ℕ) → ℕ → Type 0

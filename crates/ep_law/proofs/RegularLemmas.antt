@@ -1,5 +1,6 @@
 -- The states of runs are regular.
 use Rattle.std.proofs.Common.{◌≡◌, ℕ, true, List, [], ◌∷◌, None, Option, Some, MatchOption, ap, filter, subst, sym, ◌∙◌}
+use Rattle.ep_facts.proofs.BoolFacts.{first_of_and}
 use Rattle.ep_base.specs.Limits.{Limits}
 use Rattle.ep_base.specs.declared.answer.Answer.{Answer}
 use Rattle.ep_base.specs.declared.call.Event.{Event}
@@ -19,7 +20,7 @@ use Rattle.ep_law.specs.Laws.{Member}
 use Rattle.ep_law.specs.Narrow.{ChangesAreRegular, IsRegular, RunsAreRegular}
 use Rattle.ep_law.specs.Sound.{Sound}
 use Rattle.ep_law.proofs.GraphLemmas.{Linked, came_link, linked_begun, linked_change, linked_opening, linked_settle, linked_step, member_of_map}
-use Rattle.ep_law.proofs.ListLemmas.{filtered_passes, first_of_and}
+use Rattle.ep_law.proofs.ListLemmas.{filtered_passes}
 use Rattle.ep_law.proofs.SoundLemmas.{sound_begun, sound_change, sound_opening, sound_settle, sound_step}
 use Rattle.ep_law.proofs.StepLemmas.{run_keeps}
 

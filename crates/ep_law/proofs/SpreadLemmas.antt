@@ -2,6 +2,8 @@
 use Rattle.std.proofs.Common.{◌≡◌, ℕ, zero, suc, ◌==◌, ◌&&◌, Bool, true, false, List, [], ◌∷◌, Option, Some, None, refl, ap, subst, inl, inr, nat_lt, unwrap_or}
 use Rattle.std.specs.Prelude.{bit_or}
 use Rattle.std.specs.List.{list_any}
+use Rattle.ep_facts.proofs.NatFacts.{from_test}
+use Rattle.ep_facts.proofs.BoolFacts.{first_of_and, second_of_and}
 use Rattle.ep_machine.specs.Bits.{IN, asked, when}
 use Rattle.ep_machine.specs.Objects.{Object, plain, instance, is_instance}
 use Rattle.ep_machine.specs.State.{State, Watch}
@@ -9,9 +11,8 @@ use Rattle.ep_machine.specs.Files.{object_of}
 use Rattle.ep_machine.specs.Watches.{links, is_legal}
 use Rattle.ep_machine.specs.Spread.{raised_of, reaching_of, spread_by, passes_on_by, is_reached_within, is_reached, spread, passes_on}
 use Rattle.ep_law.specs.Laws.{Member, SpreadLeast}
-use Rattle.ep_law.proofs.ListLemmas.{any_same, any_member, member_map, member_filter, first_of_and, second_of_and}
+use Rattle.ep_law.proofs.ListLemmas.{any_same, any_member, member_map, member_filter}
 use Rattle.ep_law.proofs.ReadinessLemmas.{Goes, no_long_chain, and_same}
-use Rattle.ep_law.proofs.TestLemmas.{from_test}
 
 pub reaching_same : (r q : ℕ → Bool) (d : ℕ) (o : Option Object) → (is_instance (unwrap_or o plain) ≡ true → r d ≡ q d) → reaching_of r d o ≡ reaching_of q d o
 reaching_same r q d None h = refl

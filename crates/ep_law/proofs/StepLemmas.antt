@@ -16,12 +16,12 @@ use Rattle.ep_machine.specs.Tables.{same_number}
 use Rattle.ep_machine.specs.Refusal.{refusals}
 use Rattle.ep_machine.specs.Step.{step, next_event, change, refused_or, settled}
 use Rattle.ep_machine.specs.Run.{run, run_on, go_on, checked, same_answer, same_list, same_report}
-use Rattle.ep_law.proofs.TestLemmas.{same_nat}
 use Rattle.ep_machine.specs.Readiness.{is_ready}
 use Rattle.ep_machine.specs.Report.{plainly, report, is_pick}
 use Rattle.ep_machine.specs.Waits.{is_due, leave, leave_after, resume, resume_by, resume_empty, unmarked, waiter_of, wait_for}
 use Rattle.std.proofs.lemmas.Bool.Decides.{nat_tests}
 use Rattle.std.proofs.lemmas.Option.{none-some}
+use Rattle.ep_facts.proofs.NatFacts.{same_nat}
 use Rattle.ep_machine.specs.Files.{named_by}
 use Rattle.ep_machine.specs.Watches.{is_add, is_del, number_in}
 

@@ -7,6 +7,7 @@ use Rattle.std.proofs.lemmas.Bool.Decides.{nat_tests}
 use Rattle.std.proofs.lemmas.List.{length-drop}
 use Rattle.std.proofs.lemmas.Nat.{le-div}
 use Rattle.std.proofs.Math.Nat.{div-mul-le_self}
+use Rattle.std.proofs.Math.Bool.{or-true}
 use Rattle.ep_base.specs.declared.errno.Errno.{Errno}
 use Rattle.ep_base.specs.declared.object.End.{End}
 use Rattle.ep_base.specs.declared.object.End.TheVariants.{First, Second}
@@ -115,12 +116,8 @@ module _ (capacity : ℕ) (mine other : Socket) where
 
   peer_closes : Stay (socket_present capacity mine (record other { is_closed = true })) shown
   peer_closes =
-      let over : (other.is_shut || true) ≡ true = or_true other.is_shut in
+      let over : (other.is_shut || true) ≡ true = or-true other.is_shut in
       socket_stays capacity mine other mine (record other { is_closed = true }) (or_last (not (is_empty mine.queue)) _ _ (λ h. over)) (λ h. over) (λ h. refl) (λ h. refl)
-    where
-      or_true : (b : Bool) → (b || true) ≡ true
-      or_true true = refl
-      or_true false = refl
 
 -- Calls.
 -- object x, of which a call makes y, shows at this end what it showed

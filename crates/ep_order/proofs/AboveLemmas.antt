@@ -1,16 +1,16 @@
 -- What is above an instance, and what is guarded, as chains of links.
 use Rattle.std.proofs.Common.{◌≡◌, ◌<◌, ℕ, zero, suc, ◌==◌, ◌&&◌, ◌||◌, ◌⊎◌, ◌∙◌, Bool, List, true, false, ap, arith, filter, inl, inr, map, nat_lt, refl, subst, sym}
 use Rattle.std.proofs.lemmas.Bool.{false≢true}
+use Rattle.ep_facts.proofs.NatFacts.{from_test, same_test}
+use Rattle.ep_facts.proofs.BoolFacts.{first_of_and, or_cases, or_left, or_right, second_of_and}
 use Rattle.ep_machine.specs.Bits.{IN, asked}
 use Rattle.ep_machine.specs.Files.{Files}
 use Rattle.ep_law.specs.Laws.{Member, has_instance}
 use Rattle.ep_law.proofs.GraphLemmas.{member_of_map}
-use Rattle.ep_law.proofs.ListLemmas.{any_member, any_same, filtered_member, filtered_passes, first_of_and, member_filter, member_map, second_of_and}
-use Rattle.ep_law.proofs.NarrowLemmas.{either_or}
-use Rattle.ep_law.proofs.TestLemmas.{from_test, or_left, or_right, same_test}
+use Rattle.ep_law.proofs.ListLemmas.{any_has, any_member, any_same, filtered_member, filtered_passes, member_filter, member_map}
 use Rattle.ep_nest.specs.Chains.{IsAbove, IsShort, LeadsBy}
 use Rattle.ep_order.specs.Reach.{AboveIsAbove, GuardedIsAbove, IsGuardedBy, all_links, lets_by, open_links}
-use Rattle.ep_order.proofs.ReachLemmas.{any_has, from_contains, starts, to_contains}
+use Rattle.ep_order.proofs.ReachLemmas.{from_contains, starts, to_contains}
 use Rattle.ep_view.specs.KernelView.{KernelWatch, any_within, watches_instance}
 use Rattle.ep_view.specs.Marking.{above_now, guarded_now, guards, is_guard, lets_up}
 
@@ -31,7 +31,7 @@ module _ (direct link : KernelWatch → Bool) (xs : List KernelWatch) where
       let some = any_member (λ x. x.instance == e && passes (any_within passes k xs) x) xs h in
       let x = some.0 in
       let at : x.instance ≡ e = from_test x.instance e (first_of_and _ _ some.2) in
-      elim (either_or (direct x) (link x && any_within passes k xs x.target) (second_of_and (x.instance == e) _ some.2)) [
+      elim (or_cases (direct x) (link x && any_within passes k xs x.target) (second_of_and (x.instance == e) _ some.2)) [
         | inl here ↦ (0, x, some.1, here, sym at)
         | inr through ↦
             let below = down k x.target (second_of_and (link x) _ through) in

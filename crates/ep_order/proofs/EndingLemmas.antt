@@ -1,6 +1,8 @@
 -- A registration that an event doesn't touch stays reportable.
 use Rattle.std.proofs.Common.{◌≡◌, ◌≤◌, ◌&&◌, ◌||◌, ◌∙◌, ℕ, Bool, true, false, List, [], ◌∷◌, None, Option, Some, ap, arith, get_or, inl, inr, map, nat_lt, not, refl, subst, sym, unwrap_or}
 use Rattle.std.proofs.lemmas.Bool.{false≢true}
+use Rattle.ep_facts.proofs.BoolFacts.{first_of_and, or_left, second_of_and}
+use Rattle.ep_facts.proofs.NatFacts.{same_or_not, test_apart}
 use Rattle.ep_base.specs.Limits.{Limits}
 use Rattle.ep_base.specs.declared.call.Event.{Event}
 use Rattle.ep_base.specs.declared.counts.Counts.{Counts}
@@ -9,17 +11,16 @@ use Rattle.ep_base.specs.declared.record.Record.{Record}
 use Rattle.ep_law.specs.Laws.{EndsAreApart, IsNoted, Member}
 use Rattle.ep_law.proofs.RegularLemmas.{well_made_run}
 use Rattle.ep_law.proofs.BeginningLemmas.{present_other}
-use Rattle.ep_law.proofs.DeathLemmas.{differs, raised_before, same_or_not}
+use Rattle.ep_law.proofs.DeathLemmas.{raised_before}
 use Rattle.ep_law.proofs.EndLemmas.{object_there}
 use Rattle.ep_law.proofs.GraphLemmas.{linked_run}
-use Rattle.ep_law.proofs.ListLemmas.{all_member, first_of_and, one_number, second_of_and}
+use Rattle.ep_law.proofs.ListLemmas.{all_member, one_number}
 use Rattle.ep_law.proofs.MaskLemmas.{asked_begins, none_or_some}
 use Rattle.ep_law.proofs.NamedLivesLemmas.{dying_distinct, dying_placed}
 use Rattle.ep_law.proofs.Present.{present_at}
 use Rattle.ep_law.proofs.RaiseLemmas.{live_place, lived_before, present_place}
 use Rattle.ep_law.proofs.SoundLemmas.{sound_run}
 use Rattle.ep_law.proofs.StepLemmas.{step_changed}
-use Rattle.ep_law.proofs.TestLemmas.{or_left}
 use Rattle.ep_machine.specs.Bits.{ERR, ET, HUP, IN, asked, has_bit, union, when}
 use Rattle.ep_machine.specs.Counts.{every_shown_bit, no_counts}
 use Rattle.ep_machine.specs.Deaths.{buried, dying, named_in_tables}
@@ -47,7 +48,7 @@ use Rattle.ep_order.proofs.PresentLemmas.{Goes, Holds, change_goes, holds_deaths
 use Rattle.ep_order.proofs.StepLemmas.{stood}
 
 shows_own : (r : ℕ → Bool) (d : ℕ) (o : Option Object) (e : End) (now : ℕ) → (kind_of o ≡ 1 → ⊥) → present_of r d o e now ≡ object_present (unwrap_or o plain) e now
-shows_own r d o e now h = present_other r d o e now (instance_kind o ∙ differs (kind_of o) 1 h)
+shows_own r d o e now h = present_other r d o e now (instance_kind o ∙ test_apart (kind_of o) 1 h)
 
 -- the one shows IN if it is ready, the other what it showed
 shown_stays : (ready later : ℕ → Bool) (d : ℕ) (o p : Option Object) (e f : End) (old new : ℕ) → kind_of p ≡ kind_of o → (o ≡ Some instance → later d ≡ true)

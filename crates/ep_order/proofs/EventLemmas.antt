@@ -2,16 +2,18 @@
 use Rattle.std.proofs.Common.{◌≡◌, ◌≤◌, ◌+◌, ◌++◌, ◌⊎◌, ◌∙◌, ◌&&◌, ◌==◌, ℕ, Bool, true, false, List, None, Option, Some, ap, arith, filter, inl, inr, map, refl, subst, sym, unwrap_or}
 use Rattle.std.specs.Option.{option_map}
 use Rattle.std.proofs.lemmas.Bool.{cases_Bool, false≢true}
+use Rattle.ep_facts.proofs.NatFacts.{from_test, same_test}
+use Rattle.ep_facts.proofs.BoolFacts.{first_of_and, or_left, second_of_and}
+use Rattle.ep_facts.proofs.AmongFacts.{among_append}
 use Rattle.ep_base.specs.declared.call.Event.{Event}
 use Rattle.ep_law.specs.Laws.{HasCause, Member, is_reportable_in, passes_on_of}
 use Rattle.ep_law.specs.Sound.{Sound}
 use Rattle.ep_law.proofs.BeginningLemmas.{reportables_are_spread}
 use Rattle.ep_law.proofs.ChangeLemmas.{kept_same}
-use Rattle.ep_law.proofs.ListLemmas.{all_member, among, among_member, among_split, filtered_member, filtered_passes, find_member, first_of_and, mapped_member, member_filter, member_map, one_number, second_of_and}
+use Rattle.ep_law.proofs.ListLemmas.{all_member, among, among_member, filtered_member, filtered_passes, find_member, mapped_member, member_filter, member_map, one_number}
 use Rattle.ep_law.proofs.MarkLemmas.{ready_same}
 use Rattle.ep_law.proofs.SoundLemmas.{sound_begun, sound_run, sound_step}
 use Rattle.ep_law.proofs.StepLemmas.{step_changed}
-use Rattle.ep_law.proofs.TestLemmas.{from_test, or_left, same_test}
 use Rattle.ep_machine.specs.Deaths.{buried}
 use Rattle.ep_machine.specs.Files.{is_live}
 use Rattle.ep_machine.specs.Lists.{is_among}
@@ -222,7 +224,7 @@ module _ (b : State) (event : Event) (picked : List ℕ) (c : Change) (e : ℕ) 
                 | inl told ↦ changing ready (inl told.told)
                 | inr (out, inl m) ↦ elim (cause.kept (kept_same b x m)) [
                   | inr on ↦ passing on
-                  | inl was ↦ among_split (filter keeps old) more x.number ∙ or_left _ _ (stayed x.number (ready_in b e x m instance was) ends out)
+                  | inl was ↦ among_append (filter keeps old) more x.number ∙ or_left _ _ (stayed x.number (ready_in b e x m instance was) ends out)
                 ]
                 | inr (out, inr (inl h)) ↦ changing ready (inr h.altered)
                 | inr (out, inr (inr h)) ↦ changing ready (inr h.altered)

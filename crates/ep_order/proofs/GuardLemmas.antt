@@ -1,6 +1,8 @@
 -- What an instance lost that an event leaves unguarded.
 use Rattle.std.proofs.Common.{◌≡◌, ℕ, zero, suc, ◌≤◌, ◌==◌, ◌&&◌, ◌||◌, ◌∙◌, Bool, List, None, true, false, not, ap, arith, inl, inr, map, refl, subst, sym, nat_lt, if◌then◌else◌}
-use Rattle.std.proofs.lemmas.Bool.{cases_Bool, false≢true}
+use Rattle.std.proofs.lemmas.Bool.{cases_Bool, false≢true, or_parts}
+use Rattle.ep_facts.proofs.NatFacts.{from_test, same_test}
+use Rattle.ep_facts.proofs.BoolFacts.{first_of_and, or_cases, or_left, or_nothing_false, or_right, second_of_and}
 use Rattle.ep_base.specs.Limits.{Limits}
 use Rattle.ep_base.specs.declared.call.Call.TheVariants.{EpollCtl}
 use Rattle.ep_base.specs.declared.call.Event.{Event}
@@ -26,11 +28,8 @@ use Rattle.ep_machine.specs.Watches.{has_key, is_add, is_del, is_exclusive, is_e
 use Rattle.ep_law.proofs.GraphLemmas.{is_einval, link_in, linked_begun, linked_change, member_of_map, none_held}
 use Rattle.ep_law.proofs.InstanceLemmas.{narrows_deaths}
 use Rattle.ep_law.proofs.GuardLemmas.{none_member}
-use Rattle.ep_law.proofs.ListLemmas.{all_member, among_member, any_member, filtered_member, filtered_passes, first_of_and, mapped_member, one_number, second_of_and}
-use Rattle.ep_law.proofs.NarrowLemmas.{either_or}
-use Rattle.ep_law.proofs.ReachLemmas.{any_has}
+use Rattle.ep_law.proofs.ListLemmas.{all_member, among_member, any_has, any_member, filtered_member, filtered_passes, mapped_member, one_number}
 use Rattle.ep_law.proofs.RegularLemmas.{runs_are_regular, well_made_run}
-use Rattle.ep_law.proofs.TestLemmas.{from_test, neither, or_left, or_right, same_test}
 use Rattle.ep_order.specs.Mark.{HasLost, LosesGuard}
 use Rattle.ep_order.proofs.OriginLemmas.{Modified, Origin, origins}
 use Rattle.ep_order.proofs.ReachLemmas.{to_contains}
@@ -64,7 +63,7 @@ module _ (s t : State) (alike : (x y : Watch) → Member x s.watches → Member 
       let some = any_member (λ x. x.instance == e && (is_exclusive x || is_guarded_within k s x.target)) s.watches h in
       let x = some.0 in
       let at : x.instance ≡ e = from_test x.instance e (first_of_and _ _ some.2) in
-      let guards = either_or (is_exclusive x) (is_guarded_within k s x.target) (second_of_and (x.instance == e) _ some.2) in
+      let guards = or_cases (is_exclusive x) (is_guarded_within k s x.target) (second_of_and (x.instance == e) _ some.2) in
       elim (cases_Bool (is_among (map (λ y. y.number) t.watches) x.number)) [
         | inr lost ↦ record {
           x = x;
@@ -76,7 +75,7 @@ module _ (s t : State) (alike : (x y : Watch) → Member x s.watches → Member 
         | inl there ↦
             let y = mapped_member (λ w. w.number) t.watches x.number (among_member (map (λ w. w.number) t.watches) x.number there) in
             let same = alike x y.0 some.1 y.1 y.2 in
-            let none = neither (is_exclusive y.0) (is_guarded_within k t y.0.target) (not_both (y.0.instance == e) _ (none_member (λ w. w.instance == e && (is_exclusive w || is_guarded_within k t w.target)) t.watches y.0 f y.1) (same_test y.0.instance e (same.instance_of ∙ at))) in
+            let none = or_parts (is_exclusive y.0) (is_guarded_within k t y.0.target) (not_both (y.0.instance == e) _ (none_member (λ w. w.instance == e && (is_exclusive w || is_guarded_within k t w.target)) t.watches y.0 f y.1) (same_test y.0.instance e (same.instance_of ∙ at))) in
             elim guards [
               | inl exclusive ↦ absurd (false≢true (sym none.0 ∙ (same.exclusive ∙ exclusive)))
               | inr below ↦
@@ -105,10 +104,6 @@ abbrev is_eexist : Errno → Bool
 is_eexist Eexist = true
 is_eexist e = false
 
-or_none : (a : Bool) → (a || false) ≡ false → a ≡ false
-or_none true h = h
-or_none false h = refl
-
 both_no : (a t : Bool) → (a && t) ≡ false → t ≡ true → a ≡ false
 both_no true true h k = h
 both_no true false h k = absurd (false≢true k)
@@ -133,12 +128,12 @@ module _ (limits : Limits) (b : State) (caller : ℕ) where
       let rows = refusals limits b caller (CallOf p (EpollCtl epfd op fd mask tag)) in
       let key : has_key e k d m.was ≡ true = (λ i. sym m.instance i == e && sym m.fd i == k && sym m.target i == d) ∙ m.altered.1 in
       let there : is_there b e k d ≡ true = any_has (has_key e k d) b.watches m.was m.there key in
-      let instances = neither _ _ (none_held is_einval rows allowed) in
-      let ops = neither _ _ instances.1 in
-      let adds = neither _ _ ops.1 in
-      let mods = neither _ _ adds.1 in
-      let there_too = or_none _ mods.1 in
-      let added : is_add op ≡ false = both_no (is_add op) (is_there b e k d) (or_none _ (none_held is_eexist rows allowed)) there in
+      let instances = or_parts _ _ (none_held is_einval rows allowed) in
+      let ops = or_parts _ _ instances.1 in
+      let adds = or_parts _ _ ops.1 in
+      let mods = or_parts _ _ adds.1 in
+      let there_too = or_nothing_false _ mods.1 in
+      let added : is_add op ≡ false = both_no (is_add op) (is_there b e k d) (or_nothing_false _ (none_held is_eexist rows allowed)) there in
       let is : is_mod op ≡ true = is_one (is_add op) (is_del op) (is_mod op) added m.altered.0 ops.0 in
       let none : is_exclusive_there b e k d ≡ false = and_none (is_mod op) (is_exclusive_there b e k d) there_too is in (
         ap (λ (j : ℕ). has_bit j EXCLUSIVE) m.mask ∙ and_none (is_mod op) (has_bit mask.0 EXCLUSIVE) mods.0 is,

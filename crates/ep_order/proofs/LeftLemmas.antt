@@ -2,15 +2,15 @@
 use Rattle.std.proofs.Common.{◌≡◌, ℕ, zero, suc, ◌==◌, ◌&&◌, ◌||◌, ◌++◌, ◌∙◌, Bool, List, [], ◌∷◌, MatchOption, None, Option, Some, ℤ, pos, negsuc, true, false, not, ap, cond, filter, if◌then◌else◌, inl, inr, map, nat_eq, refl, subst, sym}
 use Rattle.std.specs.List.{IsDistinct, find, list_any}
 use Rattle.std.proofs.lemmas.Bool.{cases_Bool, false≢true}
+use Rattle.ep_facts.proofs.NatFacts.{from_test, same_nat}
+use Rattle.ep_facts.proofs.BoolFacts.{from_and_not, or_left, or_right}
 use Rattle.ep_base.specs.Limits.{Limits}
 use Rattle.ep_base.specs.declared.answer.Answer.TheVariants.{Events, Still}
 use Rattle.ep_base.specs.declared.call.Call.{Call}
 use Rattle.ep_base.specs.declared.call.Call.TheVariants.{EpollCtl, EpollWait}
 use Rattle.ep_base.specs.declared.call.Event.{Event}
 use Rattle.ep_base.specs.declared.call.Event.TheVariants.{Call as CallOf, Resume, Tick}
-use Rattle.ep_law.proofs.ListLemmas.{any_member, member_filter}
-use Rattle.ep_law.proofs.ReachLemmas.{any_has}
-use Rattle.ep_law.proofs.TestLemmas.{from_test, or_left, or_right, same_nat}
+use Rattle.ep_law.proofs.ListLemmas.{any_has, any_member, member_filter}
 use Rattle.ep_law.specs.Laws.{Member}
 use Rattle.ep_machine.specs.Exclusive.{is_left}
 use Rattle.ep_machine.specs.Files.{named_by}
@@ -124,17 +124,12 @@ found_passes (v ∷ ws) caller w h = elim (cases_Bool (v.caller == caller)) [
   | inr f ↦ found_passes ws caller w (sym (ap (λ (b : Bool). cond b (Some v) (find (λ u. u.caller == caller) ws)) f) ∙ h)
 ]
 
-both : (a b : Bool) → (a && not b) ≡ true → (a ≡ true) × (b ≡ false)
-both true false h = (refl, refl)
-both true true h = absurd (false≢true h)
-both false b h = absurd (false≢true h)
-
 module _ (b : State) (caller : ℕ) (distinct : IsDistinct nat_eq (map (λ w. w.caller) b.waiters)) where
   -- nobody leaves by any other event
   none_leaves : (u : State) (e : ℕ) {X : Type 0} → OthersStay b u nobody → is_left b u e ≡ true → X
   none_leaves u e stay left =
       let w = any_member (λ w. w.instance == e && not (is_parked u w.caller)) b.waiters left in
-      let told = both (w.0.instance == e) (is_parked u w.0.caller) w.2 in
+      let told = from_and_not (w.0.instance == e) (is_parked u w.0.caller) w.2 in
       absurd (false≢true (sym told.1 ∙ stay w.0 w.1 refl))
 
   resumed_leaves : (u : State) (e : ℕ) (w : Waiter) → waiter_of b caller ≡ Some w → OthersStay b u (λ v. v.caller == w.caller) → LeavesResumed b caller Resume u e
@@ -144,7 +139,7 @@ module _ (b : State) (caller : ℕ) (distinct : IsDistinct nat_eq (map (λ w. w.
       record {
         only = λ left.
             let v = any_member (λ v. v.instance == e && not (is_parked u v.caller)) b.waiters left in
-            let told = both (v.0.instance == e) (is_parked u v.0.caller) v.2 in
+            let told = from_and_not (v.0.instance == e) (is_parked u v.0.caller) v.2 in
             elim (cases_Bool (v.0.caller == w.caller)) [
               | inl same ↦
                   let one : v.0 ≡ w = one_caller b.waiters v.0 w distinct v.1 there (from_test v.0.caller w.caller same) in

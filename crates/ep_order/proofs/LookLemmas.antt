@@ -1,8 +1,8 @@
 -- Where a kernel has to look for whom it marks.
 use Rattle.std.proofs.Common.{◌≡◌, ℕ, ◌||◌, ◌∙◌, Bool, Option, true, false, not, ap, inl, inr, map, refl, sym, unwrap_or}
 use Rattle.std.proofs.lemmas.Bool.{cases_Bool, false≢true}
+use Rattle.ep_facts.proofs.BoolFacts.{first_of_and, second_of_and}
 use Rattle.ep_law.specs.Laws.{has_instance}
-use Rattle.ep_law.proofs.ListLemmas.{first_of_and, second_of_and}
 use Rattle.ep_law.proofs.MarkLemmas.{marked_parts}
 use Rattle.ep_law.proofs.RegularLemmas.{changes_are_regular}
 use Rattle.ep_law.proofs.StepLemmas.{change_counted}

@@ -2,7 +2,6 @@
 use Rattle.std.proofs.Common.{◌≡◌, ℕ, zero, suc, ◌+◌, ◌==◌, ◌&&◌, ◌||◌, ◌++◌, ◌⊎◌, ◌∙◌, All, Bool, List, [], ◌∷◌, MatchOption, None, Option, Some, ℤ, pos, negsuc, true, false, not, ap, arith, cond, filter, if◌then◌else◌, inl, inr, map, nat_eq, refl, subst, sym}
 use Rattle.std.specs.List.{AllByRecursion, IsDistinct, find, list_any}
 use Rattle.std.proofs.lemmas.Bool.{cases_Bool, false≢true}
-use Rattle.std.proofs.lemmas.Bool.Decides.{nat_tests}
 use Rattle.ep_base.specs.Limits.{Limits}
 use Rattle.ep_base.specs.declared.counts.Counts.{Counts}
 use Rattle.ep_base.specs.declared.answer.Answer.TheVariants.{Events, Still}
@@ -26,7 +25,6 @@ use Rattle.ep_law.proofs.StepLemmas.{change_counted}
 use Rattle.ep_law.proofs.MarkLemmas.{marked_parts, ready_marked, ready_same, guarded_same}
 use Rattle.ep_view.proofs.AtRestLemmas.{quiet_begun, quiet_change, quiet_run}
 use Rattle.ep_view.proofs.SettleLemmas.{quiet_settled, settle_changed}
-use Rattle.ep_law.proofs.TestLemmas.{from_test, or_left, or_right}
 use Rattle.ep_object.specs.Law.{AdvanceLaw, ApplyLaw, CloseLaw}
 use Rattle.ep_view.proofs.RaisedLemmas.{in_spread_at_instance}
 use Rattle.ep_law.proofs.GraphLemmas.{linked_begun, linked_change, linked_run}
@@ -38,10 +36,12 @@ use Rattle.ep_machine.specs.Spread.{arrived, is_reached, is_reached_within, pass
 use Rattle.ep_machine.specs.Lists.{is_among}
 use Rattle.std.specs.Prelude.{bit_or}
 use Rattle.std.specs.Int.{bit_at}
+use Rattle.ep_law.proofs.ListLemmas.{any_has}
+use Rattle.ep_facts.proofs.BoolFacts.{first_of_and, or_left, or_right}
+use Rattle.ep_facts.proofs.NatFacts.{from_test, not_apart}
 use Rattle.ep_law.proofs.RegularLemmas.{changes_are_regular}
 use Rattle.ep_law.proofs.NarrowLemmas.{in_has}
 use Rattle.ep_law.proofs.GuardLemmas.{unguarded_spread}
-use Rattle.ep_law.proofs.ReachLemmas.{any_has}
 
 abbrev pub at_any : ℕ → List ℕ → Bool
 at_any e ks = list_any (λ k. k == e) ks
@@ -142,9 +142,6 @@ apart_caller c [] v h m = absurd m
 apart_caller c (w ∷ ws) v h (inl e) = ap (λ (u : Waiter). nat_eq c u.caller) e ∙ h.0
 apart_caller c (w ∷ ws) v h (inr m) = apart_caller c ws v h.1 m
 
-not_apart : (a c : ℕ) → nat_eq a c ≡ false → a ≡ c → ⊥
-not_apart a c h e = grind (arith, nat_tests, h, e)
-
 -- a caller has one waiter
 pub one_caller : (ws : List Waiter) (v w : Waiter) → IsDistinct nat_eq (map (λ u. u.caller) ws) → Member v ws → Member w ws → v.caller ≡ w.caller → v ≡ w
 unfolding IsDistinct
@@ -173,17 +170,13 @@ left_waits p (w ∷ ws) e h =
       | false ↦ λ t. or_right _ _ (left_waits p ws e t)
     ] h
 
-and_left : (a b : Bool) → (a && b) ≡ true → a ≡ true
-and_left true b h = refl
-and_left false b h = h
-
 left_marks : (c : ℕ) (ws : List Waiter) (e : ℕ) → AreOthers c e ws → is_marked_at ws e ≡ true → is_marked_at (filter (λ w. not (w.caller == c)) ws) e ≡ true
 left_marks c [] e others h = h
 left_marks c (w ∷ ws) e others h =
     let rest = left_marks c ws e (λ v m. others v (inr m)) in
     elim (cases_Bool (w.instance == e && w.marked)) [
       | inl here ↦
-          let stays : (w.caller == c) ≡ false = others w (inl refl) (and_left _ _ here) in
+          let stays : (w.caller == c) ≡ false = others w (inl refl) (first_of_and _ _ here) in
           ap (λ (d : Bool). is_marked_at (cond (not d) (w ∷ filter (λ v. not (v.caller == c)) ws) (filter (λ v. not (v.caller == c)) ws)) e) stays ∙ or_left _ _ here
       | inr f ↦
           let more = rest (sym (ap (λ (d : Bool). d || is_marked_at ws e) f) ∙ h) in
@@ -198,7 +191,7 @@ unmarked_marks : (c : ℕ) (ws : List Waiter) (e : ℕ) → AreOthers c e ws →
 unmarked_marks c [] e others h = h
 unmarked_marks c (w ∷ ws) e others h = elim (cases_Bool (w.instance == e && w.marked)) [
   | inl here ↦
-      let stays : (w.caller == c) ≡ false = others w (inl refl) (and_left _ _ here) in
+      let stays : (w.caller == c) ≡ false = others w (inl refl) (first_of_and _ _ here) in
       or_left _ _ (ap (λ (d : Bool). w.instance == e && (w.marked && not d)) stays ∙ same (w.instance == e) w.marked here)
   | inr f ↦ or_right _ _ (unmarked_marks c ws e (λ v m. others v (inr m)) (sym (ap (λ (d : Bool). d || is_marked_at ws e) f) ∙ h))
 ] where

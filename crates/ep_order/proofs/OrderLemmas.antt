@@ -1,16 +1,12 @@
 -- Fair orders.
-use Rattle.std.proofs.Common.{◌≡◌, ◌≤◌, ◌++◌, ◌∙◌, ◌⊎◌, ◌||◌, ◌==◌, ℕ, zero, suc, Bool, true, false, List, [], ◌∷◌, ap, arith, cond, filter, inl, inr, refl, subst, sym, take}
+use Rattle.std.proofs.Common.{◌≡◌, ◌≤◌, ◌++◌, ◌∙◌, ◌==◌, ℕ, zero, suc, Bool, true, false, List, [], ◌∷◌, ap, arith, cond, filter, inl, inr, refl, subst, sym, take}
 use Rattle.std.proofs.lemmas.Bool.{cases_Bool, false≢true}
+use Rattle.ep_facts.proofs.AmongFacts.{among_append}
+use Rattle.ep_facts.proofs.BoolFacts.{or_left, or_right, second_of_or}
 use Rattle.ep_law.specs.Laws.{Member}
 use Rattle.ep_machine.specs.Lists.{is_among}
-use Rattle.ep_law.proofs.ListLemmas.{among_member, among_split, filtered_member, filtered_passes, among, member_filter}
-use Rattle.ep_law.proofs.TestLemmas.{or_left, or_right}
+use Rattle.ep_law.proofs.ListLemmas.{among, among_member, filtered_member, filtered_passes, member_filter, member_split}
 use Rattle.ep_order.specs.Order.{StaysFair, FirstAreFair, IsFairOrder, StaysComplete, Turns}
-
-member_split : (k : ℕ) (xs ys : List ℕ) → Member k (xs ++ ys) → Member k xs ⊎ Member k ys
-member_split k [] ys m = inr m
-member_split k (x ∷ xs) ys (inl e) = inl (inl e)
-member_split k (x ∷ xs) ys (inr m) = elim (member_split k xs ys m) [ inl a ↦ inl (inr a) | inr b ↦ inr b ]
 
 -- what comes in event n is fair among itself
 come_fair : (n : ℕ) (t : Turns) (more : List ℕ) → ((k : ℕ) → Member k more → t.ready k ≡ true → t.from k ≡ n) → ((k : ℕ) → t.rep k ≤ n) → IsFairOrder t more
@@ -40,7 +36,7 @@ stays_fair n s t keeps (x ∷ xs) more fair h =
 
 pub stays_complete : StaysComplete
 stays_complete s t keeps old more was each k r =
-    among_split (filter keeps old) more k
+    among_append (filter keeps old) more k
     ∙ elim (each k r) [
       | inl there ↦ or_left _ _ (among k (filter keeps old) (member_filter keeps k old (among_member old k (was k there.0)) there.1))
       | inr comes ↦ or_right _ _ comes
@@ -60,7 +56,7 @@ behind t (suc most) (z ∷ zs) fair x y m r there out =
           ] in
           elim n [
             | inl e ↦ let le = fair.0 y later r in subst (λ (k : ℕ). t.rep k ≤ t.from y) (sym e) le
-            | inr a ↦ behind t most zs fair.1 x y a r later (off (y == z) _ o)
+            | inr a ↦ behind t most zs fair.1 x y a r later (second_of_or (y == z) _ o)
           ]
       | false ↦ λ is n o.
           let later : Member y zs = elim there [
@@ -69,10 +65,7 @@ behind t (suc most) (z ∷ zs) fair x y m r there out =
           ] in
           behind t (suc most) zs fair.1 x y n r later o
     ] in
-    both (t.ready z) refl m out where
-      off : (a b : Bool) → (a || b) ≡ false → b ≡ false
-      off true b h = cc
-      off false b h = h
+    both (t.ready z) refl m out
 
 pub first_are_fair : FirstAreFair
 first_are_fair t most order fair complete x y m r out = behind t most order fair x y m r (among_member order y (complete y r)) out

@@ -1,6 +1,8 @@
 -- Where each registration after a change comes from.
 use Rattle.std.proofs.Common.{◌≡◌, ◌≤◌, ℕ, zero, suc, ◌+◌, arith, ◌&&◌, ◌==◌, ◌++◌, ◌⊎◌, ◌∙◌, Bool, List, [], ◌∷◌, MatchOption, None, Option, Some, ℤ, pos, negsuc, true, false, not, ap, cond, filter, inl, inr, map, refl, subst, sym}
 use Rattle.std.proofs.lemmas.Bool.{cases_Bool, false≢true}
+use Rattle.ep_facts.proofs.NatFacts.{from_test, same_nat}
+use Rattle.ep_facts.proofs.BoolFacts.{first_of_and}
 use Rattle.ep_base.specs.Limits.{Limits}
 use Rattle.ep_base.specs.declared.answer.Answer.TheVariants.{Events}
 use Rattle.ep_base.specs.declared.call.Call.{Call}
@@ -22,9 +24,8 @@ use Rattle.ep_machine.specs.Step.{call_change, change}
 use Rattle.ep_machine.specs.Waits.{leave_after, resume, tick, wait_for}
 use Rattle.ep_machine.specs.Watches.{ctl, has_key, is_add, is_del, modified, new_watch, number_in, with_watch}
 use Rattle.ep_law.proofs.GraphLemmas.{member_of_map}
-use Rattle.ep_law.proofs.ListLemmas.{filtered_member, first_of_and}
+use Rattle.ep_law.proofs.ListLemmas.{filtered_member}
 use Rattle.ep_law.proofs.StepLemmas.{left_after, resumes}
-use Rattle.ep_law.proofs.TestLemmas.{from_test, same_nat}
 use Rattle.ep_order.specs.Event.{IsAltered}
 
 -- one that was there, and may only have been reported

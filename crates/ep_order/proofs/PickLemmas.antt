@@ -1,38 +1,28 @@
 -- What is first in a list is a pick of the machine.
 use Rattle.std.proofs.Common.{◌≡◌, ◌≤◌, ◌+◌, ◌∙◌, ◌&&◌, ◌==◌, ℕ, zero, suc, Bool, true, false, not, List, [], ◌∷◌, None, Option, Some, ap, arith, cond, filter, inl, inr, is_some, length, map, min, nat_eq, nat_le, refl, subst, sym, take, unwrap_or}
-use Rattle.std.specs.List.{AllByRecursion, IsDistinct, cons_option, filter_map, list_all}
+use Rattle.std.specs.List.{IsDistinct, cons_option, filter_map, list_all}
 use Rattle.std.specs.Option.{option_map}
-use Rattle.std.proofs.lemmas.Bool.{cases_Bool, false≢true}
+use Rattle.std.proofs.lemmas.Bool.{cases_Bool, false_from_ne_true, false≢true}
 use Rattle.std.proofs.lemmas.Bool.Decides.{nat_tests}
 use Rattle.std.proofs.lemmas.List.{length-take}
+use Rattle.ep_facts.proofs.NatFacts.{le_test, same_test}
+use Rattle.ep_facts.proofs.OptionFacts.{value_of}
+use Rattle.ep_facts.proofs.AmongFacts.{none_apart}
+use Rattle.ep_facts.proofs.BoolFacts.{not_and, or_left, or_right, second_of_and}
 use Rattle.ep_law.specs.Laws.{Member, is_reportable_in}
 use Rattle.ep_machine.specs.Lists.{are_distinct, is_among}
 use Rattle.ep_machine.specs.Readiness.{is_reportable, reportables}
 use Rattle.ep_machine.specs.Report.{find_watch, is_fair_to, watches_at}
 use Rattle.ep_law.specs.Sound.{Sound}
 use Rattle.ep_machine.specs.State.{State, Watch}
-use Rattle.ep_law.proofs.ListLemmas.{among_member, distinct_filtered, filtered_member, filtered_passes, find_member, mapped_member, one_number, among, member_filter, member_map, second_of_and}
+use Rattle.ep_law.proofs.ListLemmas.{among, among_member, distinct_filtered, filtered_member, filtered_passes, find_member, mapped_member, member_filter, member_map, one_number, taken_member}
 use Rattle.ep_law.proofs.PickLemmas.{distinct_filter, numbers}
-use Rattle.ep_law.proofs.TestLemmas.{or_left, or_right, same_test}
 use Rattle.ep_order.specs.Pick.{FirstArePick, of_number, turns_of}
 use Rattle.ep_order.proofs.OrderLemmas.{first_are_fair}
-
-not_true : (a : Bool) → (a ≡ true → ⊥) → a ≡ false
-not_true true h = absurd (h refl)
-not_true false h = refl
 
 is_not : (a b : Bool) → (not a && b) ≡ true → a ≡ false
 is_not true b h = cc
 is_not false b h = refl
-
-both : (a b : Bool) → a ≡ false → b ≡ true → (not a && b) ≡ true
-both a b h k = ap (λ (x : Bool). not x && b) h ∙ k
-
-taken_member : (n : ℕ) (xs : List ℕ) (k : ℕ) → Member k (take n xs) → Member k xs
-taken_member zero xs k m = absurd m
-taken_member (suc n) [] k m = m
-taken_member (suc n) (x ∷ xs) k (inl e) = inl e
-taken_member (suc n) (x ∷ xs) k (inr m) = inr (taken_member n xs k m)
 
 distinct_taken : (n : ℕ) (xs : List ℕ) → are_distinct xs ≡ true → are_distinct (take n xs) ≡ true
 distinct_taken zero xs h = refl
@@ -40,7 +30,7 @@ distinct_taken (suc n) [] h = refl
 distinct_taken (suc n) (x ∷ xs) h =
     let rest = distinct_taken n xs (second_of_and (not (is_among xs x)) (are_distinct xs) h) in
     let new = is_not (is_among xs x) (are_distinct xs) h in
-    both _ _ (not_true _ (λ t. false≢true (sym new ∙ among x xs (taken_member n xs x (among_member (take n xs) x t))))) rest
+    not_and _ _ (false_from_ne_true _ (λ t. false≢true (sym new ∙ among x xs (taken_member n xs x (among_member (take n xs) x t))))) rest
 
 -- without one that is there
 abbrev without : ℕ → List ℕ → List ℕ
@@ -79,10 +69,6 @@ no_more (x ∷ xs) ys d h =
 
 same_many : (a b : ℕ) → a ≤ b → b ≤ a → a ≡ b
 same_many a b h k = omega (arith, h, k)
-
-none_apart : (n : ℕ) (ks : List ℕ) → AllByRecursion (λ y. nat_eq n y ≡ false) ks → is_among ks n ≡ false
-none_apart n [] h = refl
-none_apart n (k ∷ ks) h = rw (h.0) (none_apart n ks h.1)
 
 distinct_test : (ks : List ℕ) → IsDistinct nat_eq ks → are_distinct ks ≡ true
 unfolding IsDistinct
@@ -126,17 +112,10 @@ pub list_all_of : (p : Watch → Bool) (xs : List Watch) → ((x : Watch) → Me
 list_all_of p [] h = refl
 list_all_of p (x ∷ xs) h = let one = h x (inl refl) in let rest = list_all_of p xs (λ y m. h y (inr m)) in λ i. one i && rest i
 
-pub some_found : (o : Option Watch) → is_some o ≡ true → (x : Watch) × (o ≡ Some x)
-some_found None h = cc
-some_found (Some x) h = (x, refl)
-
-pub le_test : (a b : ℕ) → a ≤ b → nat_le a b ≡ true
-le_test a b h = grind (arith, nat_tests, h)
-
 -- by the number of a registration that is there
 pub by_number : (s : State) (f : Watch → ℕ) (x : Watch) → Sound s → Member x s.watches → of_number s f x.number ≡ f x
 by_number s f x sound m =
-    let got = some_found (find_watch s.watches x.number) (found_one s.watches x m) in
+    let got = value_of (find_watch s.watches x.number) (found_one s.watches x m) in
     let is = find_member s.watches x.number got.0 got.1 in
     ap (λ (o : Option Watch). unwrap_or (option_map f o) 0) got.1 ∙ ap f (one_number s.watches got.0 x sound.numbers is.0 m is.1)
 

@@ -2,6 +2,7 @@
 use Rattle.std.proofs.Common.{◌≡◌, ◌≢◌, ◌+◌, ◌++◌, ◌==◌, ◌∙◌, ℕ, zero, suc, Bool, true, false, List, [], ◌∷◌, MatchOption, None, Option, Some, ℤ, pos, negsuc, ap, arith, cond, get_or, if◌then◌else◌, is_none, is_some, map, refl, set, subst, sym, unwrap_or}
 use Rattle.std.proofs.lemmas.Bool.{false≢true}
 use Rattle.std.proofs.lemmas.List.{get_or_append_left}
+use Rattle.ep_facts.proofs.NatFacts.{same_test}
 use Rattle.ep_base.specs.Limits.{Limits}
 use Rattle.ep_base.specs.declared.answer.Answer.TheVariants.{Events}
 use Rattle.ep_base.specs.declared.call.Call.{Call}
@@ -19,7 +20,6 @@ use Rattle.ep_law.proofs.RaiseLemmas.{lived_before}
 use Rattle.ep_object.proofs.BitLemmas.{covers_self, covers_then}
 use Rattle.ep_law.proofs.ShapeLemmas.{by_making, by_shape}
 use Rattle.ep_law.proofs.StepLemmas.{left_after, resumes}
-use Rattle.ep_law.proofs.TestLemmas.{same_test}
 use Rattle.ep_machine.specs.Deaths.{die, die_all, kept_object}
 use Rattle.ep_machine.specs.Effect.{Effect, first, unless}
 use Rattle.ep_machine.specs.Files.{Files, Place, named_by, names_nothing, object_at, object_number, object_under, place_of, side_in, side_under, table_of, with_object}

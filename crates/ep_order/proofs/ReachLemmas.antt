@@ -1,13 +1,14 @@
 -- What an event reaches.
-use Rattle.std.proofs.Common.{◌≡◌, ◌<◌, ℕ, zero, suc, ◌==◌, ◌&&◌, ◌||◌, ◌⊎◌, ◌∙◌, Bool, List, [], ◌∷◌, true, false, ap, arith, filter, get_or, inl, inr, length, nat_lt, refl, subst, sym}
-use Rattle.std.specs.List.{Contains, list_any}
+use Rattle.std.proofs.Common.{◌≡◌, ◌<◌, ℕ, zero, suc, ◌==◌, ◌&&◌, ◌⊎◌, ◌∙◌, Bool, List, [], ◌∷◌, true, false, ap, arith, filter, get_or, inl, inr, length, nat_lt, refl, subst, sym}
+use Rattle.std.specs.List.{Contains}
+use Rattle.ep_facts.proofs.NatFacts.{from_test, same_test}
+use Rattle.ep_facts.proofs.BoolFacts.{first_of_and, or_cases, or_left, or_right, second_of_and}
 use Rattle.ep_machine.specs.Bits.{IN, asked}
 use Rattle.ep_machine.specs.Files.{Files}
 use Rattle.ep_view.specs.KernelView.{KernelWatch, carries, reached_now, reached_within, watches_instance}
 use Rattle.ep_law.specs.Laws.{Member}
 use Rattle.ep_law.proofs.GraphLemmas.{member_of_map}
-use Rattle.ep_law.proofs.ListLemmas.{filtered_member, filtered_passes, any_member, first_of_and, member_filter, member_map, second_of_and}
-use Rattle.ep_law.proofs.TestLemmas.{from_test, or_left, or_right, same_test}
+use Rattle.ep_law.proofs.ListLemmas.{any_has, any_member, filtered_member, filtered_passes, member_filter, member_map}
 use Rattle.ep_nest.specs.Chains.{IsAbove, IsShort, LeadsBy}
 use Rattle.ep_order.specs.Reach.{IsReachedFrom, ReachedIsAbove, lets_by, open_links}
 
@@ -21,11 +22,6 @@ from_contains [] p i lt d e = absurd (omega (arith, lt))
 from_contains (q ∷ es) p zero lt d e = inl (sym e)
 from_contains (q ∷ es) p (suc i) lt d e = inr (from_contains es p i (omega (arith, lt)) d e)
 
-pub any_has : (f : KernelWatch → Bool) (xs : List KernelWatch) (x : KernelWatch) → Member x xs → f x ≡ true → list_any f xs ≡ true
-any_has f [] x m t = absurd m
-any_has f (y ∷ ys) x (inl e) t = or_left _ _ (ap f (sym e) ∙ t)
-any_has f (y ∷ ys) x (inr m) t = or_right _ _ (any_has f ys x m t)
-
 -- the first links of a chain
 abbrev pub longer : ℕ → ℕ → ℕ
 longer zero k = k
@@ -38,10 +34,6 @@ starts es (suc m) k x y c = let r = starts es m k c.0 y c.2 in (r.0, (c.0, c.1, 
 module _ (files : Files) (n : ℕ) (xs : List KernelWatch) where
   abbrev es : List (ℕ × ℕ)
   es = open_links files xs
-
-  or_cases : (a b : Bool) → (a || b) ≡ true → (a ≡ true) ⊎ (b ≡ true)
-  or_cases true b h = inl refl
-  or_cases false b h = inr h
 
   four : (a w r t : Bool) → (a && w && r && t) ≡ true → ((a && w && t) ≡ true) × (r ≡ true)
   four true true true true h = (refl, refl)

@@ -7,11 +7,12 @@ use Rattle.std.proofs.lemmas.Map.Keys.{IsDistinct-head, IsDistinct-tail}
 use Rattle.std.specs.List.{AllByRecursion, IsDistinct, count_by, find, list_any}
 use Rattle.std.specs.Map.{keys_of, lookup}
 use Rattle.std.specs.Option.{option_map}
+use Rattle.ep_facts.proofs.NatFacts.{test_turned}
 use Rattle.ep_base.specs.declared.ids.CallerId.{CallerId}
 use Rattle.ep_machine.specs.State.{Waiter as Parked}
 use Rattle.ep_machine.specs.Waits.{is_due, marked_if_due}
 use Rattle.ep_park.proofs.TallyLemmas.{counted}
-use Rattle.ep_park.proofs.ViewLemmas.{either, found, swapped}
+use Rattle.ep_park.proofs.ViewLemmas.{either, found}
 use Rattle.ep_park.specs.Changes.{with_mark_at, with_mark_of}
 use Rattle.ep_park.specs.Deadlines.{HasDeadlines, HasNoMoment, HasNoneReached, IsAwaitedBy, IsEarliest, IsReachedAt, Moments, SameMoments, SetsMoment, awaited, awaits_mark, moment_of}
 use Rattle.ep_park.specs.Queue.{marked_in}
@@ -147,7 +148,7 @@ found_marked (e ∷ es) c k w b at = elim (eqb_tells c e.0) [
       let is : e.1 ≡ w = cc in
       elim (eqb_tells k e.0) [
         | inl z ↦ let q : eqb c k ≡ true = eq-eqb c k (y.1 ∙ sym z.1) in rw (y.0, z.0, q) (ap (λ (u : Waiter). Some (record u { marked = b })) is)
-        | inr z ↦ let q : eqb c k ≡ false = ap (λ n. eqb n k) y.1 ∙ (swapped e.0 k ∙ z.0) in rw (y.0, z.0, q) refl
+        | inr z ↦ let q : eqb c k ≡ false = ap (λ n. eqb n k) y.1 ∙ (test_turned e.0 k ∙ z.0) in rw (y.0, z.0, q) refl
       ]
   | inr y ↦
       let rest : lookup (nat_eq c) es ≡ Some w = rw y.0 at at in

@@ -1,5 +1,5 @@
 -- Marks of one caller, of an instance, and of those that are due.
-use Rattle.std.proofs.Common.{◌≡◌, ℕ, zero, suc, true, false, ◌<◌, ◌≤◌, List, [], ◌∷◌, Option, Some, None, refl, sym, ap, ◌∙◌, inl, inr, map, nat_eq, eqb, arith, nat_lt, if◌then◌else◌}
+use Rattle.std.proofs.Common.{◌≡◌, ℕ, true, false, ◌<◌, ◌≤◌, List, [], ◌∷◌, Option, Some, None, refl, sym, ap, ◌∙◌, inl, inr, map, nat_eq, eqb, arith, nat_lt, if◌then◌else◌}
 use Rattle.std.proofs.Math.Bool.{and-false, and-true, or-false, or-true}
 use Rattle.std.proofs.lemmas.Bool.{eq-eqb, eqb-false, lt-ltb}
 use Rattle.std.proofs.lemmas.Bool.Decides.{eqb_tells}
@@ -7,10 +7,11 @@ use Rattle.std.proofs.lemmas.Map.Keys.{IsDistinct-head, IsDistinct-tail}
 use Rattle.std.specs.List.{AllByRecursion, IsDistinct, count_by, list_any}
 use Rattle.std.specs.Map.{keys_of, lookup}
 use Rattle.std.specs.Option.{option_map}
+use Rattle.ep_facts.proofs.NatFacts.{test_turned}
 use Rattle.ep_machine.specs.State.{Waiter as Parked}
 use Rattle.ep_machine.specs.Waits.{unmark}
 use Rattle.ep_park.proofs.TallyLemmas.{any_counted, first_is, marked_is, none_marked}
-use Rattle.ep_park.proofs.ViewLemmas.{either, swapped}
+use Rattle.ep_park.proofs.ViewLemmas.{either}
 use Rattle.ep_park.specs.Changes.{with_mark_at, with_mark_of}
 use Rattle.ep_park.specs.Tallies.{first_at, is_marked_of, tally_by, tally_of}
 use Rattle.ep_park.specs.Waiters.{first_marked, is_at, is_caller, is_marked_caller, listed, longest_marked, parked}
@@ -24,20 +25,20 @@ Misses k es = AllByRecursion (λ y. nat_eq k y ≡ false) (keys_of es)
 none_of : (c k : ℕ) (es : List (ℕ × Waiter)) → c ≡ k → Misses k es → false ≡ list_any (is_marked_caller c) (listed es)
 none_of c k [] is all = refl
 none_of c k (e ∷ es) is all =
-    let q : eqb e.0 c ≡ false = swapped e.0 c ∙ (ap (λ n. eqb n e.0) is ∙ all.0) in
+    let q : eqb e.0 c ≡ false = test_turned e.0 c ∙ (ap (λ n. eqb n e.0) is ∙ all.0) in
     rw q (none_of c k es is all.1)
 
 pub mark_found : (c : ℕ) (w : Waiter) (es : List (ℕ × Waiter)) → IsDistinct nat_eq (keys_of es) → lookup (nat_eq c) es ≡ Some w → w.marked ≡ list_any (is_marked_caller c) (listed es)
 mark_found c w [] apart at = absurd (cc)
 mark_found c w (e ∷ es) apart at = elim (eqb_tells c e.0) [
   | inl p ↦
-      let q : eqb e.0 c ≡ true = swapped e.0 c ∙ p.0 in
+      let q : eqb e.0 c ≡ true = test_turned e.0 c ∙ p.0 in
       let here : Some e.1 ≡ Some w = rw p.0 at at in
       let is : e.1 ≡ w = cc in
       let rest = none_of c e.0 es p.1 (IsDistinct-head nat_eq e.0 (keys_of es) apart) in
       rw (q, ← rest, or-false e.1.marked) (ap (λ (v : Waiter). v.marked) (sym is))
   | inr p ↦
-      let q : eqb e.0 c ≡ false = swapped e.0 c ∙ p.0 in
+      let q : eqb e.0 c ≡ false = test_turned e.0 c ∙ p.0 in
       let rest : lookup (nat_eq c) es ≡ Some w = rw p.0 at at in
       rw q (mark_found c w es (IsDistinct-tail nat_eq e.0 (keys_of es) apart) rest)
 ]
@@ -47,7 +48,7 @@ mark_none c [] at = refl
 mark_none c (e ∷ es) at = elim (eqb_tells c e.0) [
   | inl p ↦ let bad : Some e.1 ≡ None = rw p.0 at at in absurd (cc)
   | inr p ↦
-      let q : eqb e.0 c ≡ false = swapped e.0 c ∙ p.0 in
+      let q : eqb e.0 c ≡ false = test_turned e.0 c ∙ p.0 in
       let rest : lookup (nat_eq c) es ≡ None = rw p.0 at at in
       rw q (mark_none c es rest)
 ]
@@ -56,7 +57,7 @@ mark_none c (e ∷ es) at = elim (eqb_tells c e.0) [
 kept_by : (c k : ℕ) (es : List (ℕ × Waiter)) → c ≡ k → Misses k es → listed es ≡ map (unmark c) (listed es)
 kept_by c k [] is all = refl
 kept_by c k (e ∷ es) is all =
-    let q : eqb e.0 c ≡ false = swapped e.0 c ∙ (ap (λ n. eqb n e.0) is ∙ all.0) in
+    let q : eqb e.0 c ≡ false = test_turned e.0 c ∙ (ap (λ n. eqb n e.0) is ∙ all.0) in
     rw (q, and-true e.1.marked) (ap (λ xs. parked e.0 e.1 ∷ xs) (kept_by c k es is all.1))
 
 pub kept_absent : (c : ℕ) (es : List (ℕ × Waiter)) → lookup (nat_eq c) es ≡ None → listed es ≡ map (unmark c) (listed es)
@@ -64,7 +65,7 @@ kept_absent c [] at = refl
 kept_absent c (e ∷ es) at = elim (eqb_tells c e.0) [
   | inl p ↦ let bad : Some e.1 ≡ None = rw p.0 at at in absurd (cc)
   | inr p ↦
-      let q : eqb e.0 c ≡ false = swapped e.0 c ∙ p.0 in
+      let q : eqb e.0 c ≡ false = test_turned e.0 c ∙ p.0 in
       let rest : lookup (nat_eq c) es ≡ None = rw p.0 at at in
       rw (q, and-true e.1.marked) (ap (λ xs. parked e.0 e.1 ∷ xs) (kept_absent c es rest))
 ]

@@ -1,17 +1,13 @@
 -- Places of one instance, and the first of them.
-use Rattle.std.proofs.Common.{◌≡◌, ℕ, true, false, ◌≤◌, ◌<◌, List, [], ◌∷◌, refl, sym, ap, subst, ◌∙◌, inl, inr, nat_eq, eqb, nat_lt, arith}
-use Rattle.std.proofs.lemmas.Bool.{eq-eqb, ltb-false, ltb-true}
+use Rattle.std.proofs.Common.{◌≡◌, ℕ, true, false, ◌<◌, refl, sym, ap, ◌∙◌, inl, inr, nat_eq, eqb, nat_lt, arith}
+use Rattle.std.proofs.lemmas.Bool.{eq-eqb, ltb-true}
 use Rattle.std.proofs.lemmas.Bool.Decides.{eqb_tells}
 use Rattle.std.proofs.lemmas.Map.Lookups.{exact_unsigned}
-use Rattle.std.specs.BTreeMap.{BTreeMap}
-use Rattle.std.specs.BTreeMap.Range.{IsInRange, IsLeBy}
-use Rattle.std.specs.Ordering.{is_eq, is_gt, nat_cmp, ordering_then}
+use Rattle.std.specs.Ordering.{is_eq, nat_cmp, ordering_then}
 use Rattle.std.specs.declared.cmp.Ordering.{Ordering}
 use Rattle.std.specs.declared.cmp.Ordering.TheVariants.{Equal, Greater, Less}
-use Rattle.std.specs.declared.ops.Bound.TheVariants.{Included}
-use Rattle.ep_base.specs.declared.ids.CallerId.{CallerId}
 use Rattle.ep_park.proofs.ViewLemmas.{either}
-use Rattle.ep_park.specs.Queue.{ArePlacesOf, HasNoPlace, IsFirstPlace, caller_under, place_at, place_cmp}
+use Rattle.ep_park.specs.Queue.{place_cmp}
 use Rattle.ep_park.specs.declared.place.Place.{Place}
 
 pub cmp_self : (n : ℕ) → nat_cmp n n ≡ Equal

@@ -1,5 +1,5 @@
 -- The turns, tickets and places of a queue as it changes.
-use Rattle.std.proofs.Common.{◌≡◌, ℕ, zero, suc, length, Bool, true, false, cond, ◌==◌, ◌≤◌, ◌<◌, List, [], ◌∷◌, ◌++◌, map, Option, Some, None, IsSome, MatchOption, is_some, refl, sym, ap, subst, ◌∙◌, inl, inr, nat_eq, eqb, arith}
+use Rattle.std.proofs.Common.{◌≡◌, ℕ, Bool, true, false, cond, ◌==◌, ◌≤◌, ◌<◌, List, [], ◌∷◌, ◌++◌, Option, Some, None, IsSome, MatchOption, is_some, refl, sym, ap, subst, ◌∙◌, inl, inr, nat_eq, eqb, arith}
 use Rattle.std.proofs.lemmas.Bool.{eq-eqb}
 use Rattle.std.proofs.lemmas.Bool.Decides.{eqb_tells}
 use Rattle.std.proofs.lemmas.Cmp.{ranked}
@@ -12,9 +12,10 @@ use Rattle.std.specs.Map.{keys_of, lookup, remove_entry, set_value}
 use Rattle.std.specs.Option.{option_map}
 use Rattle.std.specs.Ordering.{is_eq, nat_cmp}
 use Rattle.std.specs.declared.cmp.Ordering.TheVariants.{Less}
+use Rattle.ep_facts.proofs.NatFacts.{test_turned}
 use Rattle.ep_base.specs.declared.ids.CallerId.{CallerId}
 use Rattle.ep_park.proofs.PlaceLemmas.{cmp_below, key_test, other_place, own_place}
-use Rattle.ep_park.proofs.ViewLemmas.{either, swapped}
+use Rattle.ep_park.proofs.ViewLemmas.{either}
 use Rattle.ep_park.specs.Queue.{HasNoPlace, HavePlaces, HaveTickets, IsFirstPlace, IsQueue, IsTurnOf, caller_at, caller_under, in_turn, marked_in, place_at, place_cmp}
 use Rattle.ep_park.specs.Tallies.{first_at}
 use Rattle.ep_park.specs.Waiters.{listed}
@@ -395,7 +396,7 @@ module _ (t : ℕ) (p : Turn) (b : Bool) where
   set_other : (ts : List (ℕ × Turn)) (m : ℕ) → eqb t m ≡ false → lookup (nat_eq m) (set_value (nat_eq t) ts (with_mark b p)) ≡ lookup (nat_eq m) ts
   set_other [] m off = refl
   set_other (e ∷ ts) m off = elim (eqb_tells t e.0) [
-    | inl y ↦ let no : eqb m e.0 ≡ false = ap (eqb m) (sym y.1) ∙ (swapped m t ∙ off) in rw (y.0, no) refl
+    | inl y ↦ let no : eqb m e.0 ≡ false = ap (eqb m) (sym y.1) ∙ (test_turned m t ∙ off) in rw (y.0, no) refl
     | inr n ↦ elim (eqb_tells m e.0) [ inl z ↦ rw (n.0, z.0) refl | inr z ↦ rw (n.0, z.0) (set_other ts m off) ]
   ]
 

@@ -8,6 +8,7 @@ use Rattle.std.proofs.Math.Bool.{or-true}
 use Rattle.std.specs.List.{count_by, list_any}
 use Rattle.std.specs.Map.{lookup, remove_entry}
 use Rattle.std.specs.Option.{IfSome, option_map, option_or}
+use Rattle.ep_facts.proofs.OptionFacts.{some_mapped}
 use Rattle.ep_base.specs.declared.ids.CallerId.{CallerId}
 use Rattle.ep_machine.specs.State.{Waiter as Parked}
 use Rattle.ep_machine.specs.Waits.{waits_at}
@@ -43,12 +44,8 @@ pub any_first : (e : ℕ) (ws : List Parked) → is_some (first_at e ws) ≡ wai
 any_first e [] = refl
 any_first e (w ∷ ws) = elim (either (is_at e w)) [ inl y ↦ rw y refl | inr n ↦ rw n (any_first e ws) ]
 
-some_map : {A B : Type 0} (f : A → B) (o : Option A) → is_some (option_map f o) ≡ is_some o
-some_map f None = refl
-some_map f (Some x) = refl
-
 pub any_tally : (e : ℕ) (ws : List Parked) → is_some (tally_of e ws) ≡ waits_at ws e
-any_tally e ws = some_map (tally_by (count_by (is_marked_of e) ws)) (first_at e ws) ∙ any_first e ws
+any_tally e ws = some_mapped (tally_by (count_by (is_marked_of e) ws)) (first_at e ws) ∙ any_first e ws
 
 tally_parts : (n : ℕ) (o : Option ℕ) (t : Tally) → Some t ≡ option_map (tally_by n) o → (t.marked ≡ n) × (o ≡ Some t.first.0)
 tally_parts n None t is = absurd (cc)

@@ -1,13 +1,14 @@
 -- Marks in turn are the machine's marks.
 use Rattle.std.proofs.Common.{◌≡◌, ℕ, Bool, true, false, not, ◌||◌, ◌&&◌, ◌==◌, List, [], ◌∷◌, refl, sym, ap, ◌∙◌, inl, inr, eqb}
-use Rattle.std.proofs.Math.Bool.{or-false, or-true}
+use Rattle.std.proofs.Math.Bool.{and-false, and-true, or-false, or-true}
 use Rattle.std.proofs.lemmas.Bool.{eq-eqb}
 use Rattle.std.proofs.lemmas.Bool.Decides.{eqb_tells}
 use Rattle.std.specs.List.{list_any}
+use Rattle.ep_facts.proofs.NatFacts.{test_turned}
 use Rattle.ep_machine.specs.Marks.{first_marked as first_of_each}
 use Rattle.ep_machine.specs.State.{Waiter as Parked}
 use Rattle.ep_machine.specs.Waits.{is_marked_at, waits_at}
-use Rattle.ep_park.proofs.ViewLemmas.{either, swapped}
+use Rattle.ep_park.proofs.ViewLemmas.{either}
 use Rattle.ep_park.specs.Turns.{NamesReady, NamesUnmarked, marked_in_turn}
 use Rattle.ep_park.specs.Waiters.{first_marked, longest_marked}
 
@@ -44,15 +45,11 @@ alike q r before (w ∷ ws) same =
     let here : waits_at (w ∷ ws) w.instance ≡ true = ap (λ b. b || waits_at ws w.instance) (eq-eqb w.instance w.instance refl) in
     λ j. record w { marked = w.marked || (not (waits_at before w.instance) && same w.instance here j) } ∷ alike q r (w ∷ before) ws (λ e there. same e (ap (λ b. (w.instance == e) || b) there ∙ or-true (w.instance == e))) j
 
-and_false : (b : Bool) → (b && false) ≡ false
-and_false true = refl
-and_false false = refl
-
 none_by : (r : ℕ → Bool) (before ws : List Parked) → ((e : ℕ) → r e ≡ false) → first_by r before ws ≡ ws
 none_by r before [] off = refl
 none_by r before (w ∷ ws) off =
     let b = not (waits_at before w.instance) in
-    let head : (w.marked || (b && r w.instance)) ≡ w.marked = ap (λ x. w.marked || (b && x)) (off w.instance) ∙ (ap (λ x. w.marked || x) (and_false b) ∙ or-false w.marked) in
+    let head : (w.marked || (b && r w.instance)) ≡ w.marked = ap (λ x. w.marked || (b && x)) (off w.instance) ∙ (ap (λ x. w.marked || x) (and-false b) ∙ or-false w.marked) in
     λ j. record w { marked = head j } ∷ none_by r (w ∷ before) ws off j
 
 -- one was parked earlier, so nobody is marked
@@ -62,7 +59,7 @@ later e before (w ∷ ws) there =
     let b = waits_at before w.instance in
     let head : (w.marked || (not b && (w.instance == e))) ≡ w.marked = elim (eqb_tells w.instance e) [
       | inl p ↦ let had : b ≡ true = ap (waits_at before) p.1 ∙ there in rw had (or-false w.marked)
-      | inr p ↦ rw (p.0, and_false (not b)) (or-false w.marked)
+      | inr p ↦ rw (p.0, and-false (not b)) (or-false w.marked)
     ] in
     λ j. record w { marked = head j } ∷ later e (w ∷ before) ws (ap (λ x. (w.instance == e) || x) there ∙ or-true (w.instance == e)) j
 
@@ -75,24 +72,20 @@ one_by e before (w ∷ ws) off = elim (eqb_tells w.instance e) [
       rw (p.0, had, or-true w.marked) (ap (λ xs. record w { marked = true } ∷ xs) (sym rest))
   | inr p ↦
       let rest = one_by e (w ∷ before) ws (ap (λ b. b || waits_at before e) p.0 ∙ off) in
-      rw (p.0, and_false (not (waits_at before w.instance)), or-false w.marked) (ap (λ xs. w ∷ xs) rest)
+      rw (p.0, and-false (not (waits_at before w.instance)), or-false w.marked) (ap (λ xs. w ∷ xs) rest)
 ]
 
 longest_by : (e : ℕ) (ws : List Parked) → longest_marked e ws ≡ first_by (λ x. (x == e) && not (is_marked_at ws e)) [] ws
 longest_by e ws = elim (either (is_marked_at ws e)) [
-  | inl y ↦ rw y (sym (none_by (λ x. (x == e) && false) [] ws (λ x. and_false (x == e))))
-  | inr n ↦ rw n (one_by e [] ws refl ∙ sym (alike (λ x. (x == e) && true) (λ x. x == e) [] ws (λ x there. and_true (x == e))))
+  | inl y ↦ rw y (sym (none_by (λ x. (x == e) && false) [] ws (λ x. and-false (x == e))))
+  | inr n ↦ rw n (one_by e [] ws refl ∙ sym (alike (λ x. (x == e) && true) (λ x. x == e) [] ws (λ x there. and-true (x == e))))
 ]
-  where
-    and_true : (b : Bool) → (b && true) ≡ b
-    and_true true = refl
-    and_true false = refl
 
 -- a mark at one instance is none at another
 first_apart : (e x : ℕ) (ws : List Parked) → eqb x e ≡ false → is_marked_at (first_marked e ws) x ≡ is_marked_at ws x
 first_apart e x [] off = refl
 first_apart e x (w ∷ ws) off = elim (eqb_tells w.instance e) [
-  | inl p ↦ let other : eqb w.instance x ≡ false = swapped w.instance x ∙ (ap (eqb x) p.1 ∙ off) in rw (p.0, other) refl
+  | inl p ↦ let other : eqb w.instance x ≡ false = test_turned w.instance x ∙ (ap (eqb x) p.1 ∙ off) in rw (p.0, other) refl
   | inr p ↦ rw p.0 (ap (λ b. ((w.instance == x) && w.marked) || b) (first_apart e x ws off))
 ]
 
@@ -100,7 +93,7 @@ apart : (e x : ℕ) (ws : List Parked) → eqb x e ≡ false → is_marked_at (l
 apart e x ws off = elim (either (is_marked_at ws e)) [ inl y ↦ rw y refl | inr n ↦ rw n (first_apart e x ws off) ]
 
 in_turn : (es : List ℕ) (ws : List Parked) → marked_in_turn es ws ≡ first_by (λ x. not (is_marked_at ws x) && list_any (λ y. x == y) es) [] ws
-in_turn [] ws = sym (none_by (λ x. not (is_marked_at ws x) && false) [] ws (λ x. and_false (not (is_marked_at ws x))))
+in_turn [] ws = sym (none_by (λ x. not (is_marked_at ws x) && false) [] ws (λ x. and-false (not (is_marked_at ws x))))
 in_turn (e ∷ es) ws =
     let ws' = longest_marked e ws in
     let q = λ (x : ℕ). not (is_marked_at ws' x) && list_any (λ y. x == y) es in

@@ -1,6 +1,7 @@
 -- The content of an object changes.
 use Rattle.std.proofs.Common.{Err, IfOk, List, None, Ok, OnErr, OnOk, Option, Result, Some, [], ap, get_or, inl, inr, refl, slice_set, subst, suc, sym, zero, ℕ, ◌∙◌, ◌∷◌, ◌≡◌}
 use Rattle.std.specs.declared.alloc.AllocError.{AllocError}
+use Rattle.ep_facts.proofs.NatFacts.{same_or_not}
 use Rattle.ep_base.specs.declared.answer.Answer.{Answer}
 use Rattle.ep_base.specs.declared.ids.DescId.{DescId}
 use Rattle.ep_base.specs.declared.object.End.{End}
@@ -18,7 +19,7 @@ use Rattle.ep_table.specs.declared.store.Store.TheInside.{Inside}
 use Rattle.ep_table.specs.declared.tables.Tables.TheInside.{Inside as Tables}
 use Rattle.ep_table.specs.declared.words.Description.{Description}
 use Rattle.ep_table.specs.declared.words.Shared.{Shared}
-use Rattle.ep_table.proofs.ByNumberLemmas.{contents_next, next_here, next_other, numbered_next, same_or_not}
+use Rattle.ep_table.proofs.ByNumberLemmas.{contents_next, next_here, next_other, numbered_next}
 use Rattle.ep_table.proofs.StoreLemmas.{backs, object_found, place_is, side_is}
 
 key_same : (s : Shared) (y : Object) (e : End) → end_key (record s { object = y }) e ≡ end_key s e

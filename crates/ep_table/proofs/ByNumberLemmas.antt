@@ -1,38 +1,19 @@
 -- Things by their numbers.
-use Rattle.std.proofs.Common.{◌≡◌, ◌≢◌, ℕ, zero, suc, ◌+◌, ◌<◌, ◌≤◌, ◌==◌, nat_lt, true, false, List, [], ◌∷◌, ◌++◌, length, Option, Some, None, get_or, refl, ap, sym, ◌∙◌, arith, slice_set, inl, inr, ◌⊎◌}
-use Rattle.std.proofs.lemmas.Bool.{cases_Bool}
-use Rattle.std.proofs.lemmas.Bool.Decides.{nat_tests}
+use Rattle.std.proofs.Common.{◌≡◌, ◌≢◌, ℕ, zero, suc, ◌+◌, ◌<◌, List, [], ◌∷◌, ◌++◌, length, Option, Some, None, get_or, refl, ap, sym, ◌∙◌, arith, slice_set, inl, inr, ◌⊎◌}
 use Rattle.std.proofs.lemmas.List.{get_or-set_same, get_or-set_other, get_or_past, length-set, ext_get_or}
 use Rattle.std.proofs.lemmas.List.FromFn.{length-map-range_with_len, get_or-map-range_with_len, map-range_with_len_more}
+use Rattle.ep_facts.proofs.NatFacts.{below_or, same_or_not, same_test, suc_same, test_apart, zero_suc}
 use Rattle.ep_table.specs.ByNumber.{with_by, contents_by, One, NumberedBy}
 
-pub same_or_not : (a b : ℕ) → (a ≡ b) ⊎ (a ≢ b)
-same_or_not a b = elim (cases_Bool (a == b)) [ inl e ↦ inl (grind (arith, nat_tests, e)) | inr e ↦ inr (λ h. grind (arith, nat_tests, e, h)) ]
-
-pub below_or : (a b : ℕ) → (a < b) ⊎ (b ≤ a)
-below_or a b = elim (cases_Bool (nat_lt a b)) [ inl e ↦ inl (grind (arith, nat_tests, e)) | inr e ↦ inr (grind (arith, nat_tests, e)) ]
-
-test_same : (a b : ℕ) → a ≡ b → (a == b) ≡ true
-test_same a b e = grind (arith, nat_tests, e)
-
-test_apart : (a b : ℕ) → a ≢ b → (a == b) ≡ false
-test_apart a b e = grind (arith, nat_tests, e)
-
 module _ {T V : Type 0} (number : T → ℕ) (value : T → V) where
-  suc_same : (j k : ℕ) → suc j ≡ suc k → j ≡ k
-  suc_same j k e = omega arith
-
   one_rest : (x : Option T) (slots : List (Option T)) → One number (x ∷ slots) → One number slots
   one_rest x slots one j k d e h i n = suc_same j k (one (suc j) (suc k) d e h i n)
-
-  zero_suc : (k : ℕ) → zero ≡ suc k → ⊥
-  zero_suc k e = omega arith
 
   pub with_found : (slots : List (Option T)) → One number slots → (k : ℕ) (d : T) → get_or slots k None ≡ Some d → with_by number value slots (number d) ≡ Some (value d)
   with_found [] one k d h = absurd cc
   with_found (None ∷ slots) one zero d h = absurd cc
   with_found (None ∷ slots) one (suc k) d h = with_found slots (one_rest None slots one) k d h
-  with_found (Some x ∷ slots) one zero d h = let e : x ≡ d = cc in rw (test_same (number x) (number d) (ap (λ (y : T). (number y)) e)) (ap (λ (y : T). Some (value y)) e)
+  with_found (Some x ∷ slots) one zero d h = let e : x ≡ d = cc in rw (same_test (number x) (number d) (ap (λ (y : T). (number y)) e)) (ap (λ (y : T). Some (value y)) e)
   with_found (Some x ∷ slots) one (suc k) d h = rw (test_apart (number x) (number d) (λ e. zero_suc k (one zero (suc k) x d refl h e))) (with_found slots (one_rest (Some x) slots one) k d h)
 
   pub with_none : (slots : List (Option T)) (n : ℕ) → ((k : ℕ) (d : T) → get_or slots k None ≡ Some d → (number d) ≢ n) → with_by number value slots n ≡ None

@@ -2,9 +2,10 @@
 use Rattle.std.proofs.Common.{Bool, IsSome, List, None, Option, Some, [], ap, arith, false, get_or, inl, inr, is_none, is_some, length, refl, slice_set, suc, sym, true, zero, ℕ, ◌+◌, ◌==◌, ◌∙◌, ◌∷◌, ◌≡◌, ◌≢◌, ◌⊎◌, if◌then◌else◌}
 use Rattle.std.specs.List.{list_any}
 use Rattle.std.proofs.lemmas.Bool.{cases_Bool}
-use Rattle.std.proofs.lemmas.Bool.Decides.{nat_tests}
 use Rattle.std.proofs.lemmas.List.{get_or_past}
 use Rattle.std.proofs.lemmas.List.FromFn.{get_or-map-range_with_len}
+use Rattle.ep_facts.proofs.ListFacts.{set_set}
+use Rattle.ep_facts.proofs.NatFacts.{below_or, same_or_not, same_test, test_apart}
 use Rattle.ep_base.specs.declared.ids.DescId.{DescId}
 use Rattle.ep_base.specs.declared.object.End.{End}
 use Rattle.ep_base.specs.declared.object.End.TheVariants.{First, Second}
@@ -16,7 +17,7 @@ use Rattle.ep_table.specs.Closing.{closed_in, closed_slot, kept_with, other_key,
 use Rattle.ep_table.specs.Stored.{AllBacked, AllOwned, Backs, Owns, key_at as end_key, number_in, object_in, object_number_in, objects, place_in, places}
 use Rattle.ep_table.specs.declared.words.Description.{Description}
 use Rattle.ep_table.specs.declared.words.Shared.{Shared}
-use Rattle.ep_table.proofs.ByNumberLemmas.{Has, below_or, content_there, contents_length, contents_next, has_or, next_here, next_other, numbered_next, same_or_not, value_in, with_found, with_none}
+use Rattle.ep_table.proofs.ByNumberLemmas.{Has, content_there, contents_length, contents_next, has_or, next_here, next_other, numbered_next, value_in, with_found, with_none}
 
 -- Lists with their numbers.
 pub any_numbered : (f : Place → Bool) (j i : ℕ) (xs : List (Option Place)) (p : Place) → get_or xs i None ≡ Some p → f p ≡ true → list_any (λ y. f y.1) (numbered j xs) ≡ true
@@ -98,12 +99,6 @@ kept_is (Some k) t x h = let e : t ≡ x = cc in (sym e, refl)
 
 kept_some : (o : Option DescId) (k : DescId) (t : Shared) → o ≡ Some k → kept_with o t ≡ Some t
 kept_some o k t h = ap (λ (p : Option DescId). kept_with p t) h
-
-test_same : (a b : ℕ) → a ≡ b → (a == b) ≡ true
-test_same a b e = grind (arith, nat_tests, e)
-
-test_apart : (a b : ℕ) → a ≢ b → (a == b) ≡ false
-test_apart a b e = grind (arith, nat_tests, e)
 
 module _ (ds : List (Option Description)) (os : List (Option Shared)) (n m : ℕ) (nd : NumberedBy number_in ds n) (no : NumberedBy object_number_in os m) (backed : AllBacked ds os) (owned : AllOwned ds os)
     (key : DescId) (d : Description) (is : get_or ds key.0 None ≡ Some d) where
@@ -212,7 +207,7 @@ module _ (ds : List (Option Description)) (os : List (Option Shared)) (n m : ℕ
       let x = backed k.0 w.it w.is in
       let same : x.it ≡ s = (let u = x.is in let v = b.is in let t = ap (λ (j : ℕ). get_or os j None) w.object in cc) in
       let num : w.it.object_number ≡ d.object_number = sym x.number ∙ (ap object_number_in same ∙ b.number) in
-      any_numbered same_object 0 w.it.number (places ds1 n) (place_in w.it) (content_there number_in place_in ds1 n numbered_left k.0 w.it (stays k.0 w.it ne w.is)) (test_same w.it.object_number d.object_number num)
+      any_numbered same_object 0 w.it.number (places ds1 n) (place_in w.it) (content_there number_in place_in ds1 n numbered_left k.0 w.it (stays k.0 w.it ne w.is)) (same_test w.it.object_number d.object_number num)
   any_other None e = none_numbered same_object 0 (places ds1 n) (λ i p h.
       let g = contents_has ds1 n numbered_left i p h in
       let x = g.0.it in
@@ -230,11 +225,6 @@ module _ (ds : List (Option Description)) (os : List (Option Shared)) (n m : ℕ
       let a : is_some (other_key s d.end) ≡ list_any (λ y. y.1.object == d.object_number) (numbered 0 (slice_set (places ds n) d.number None)) =
       sym (any_other (other_key s d.end) refl) ∙ ap (λ (xs : List (Option Place)). list_any (λ y. y.1.object == d.object_number) (numbered 0 xs)) places_left in
       e ∙ ((λ i. slice_set (objects os m) (b.number i) (v i)) ∙ ap (λ (c : Bool). slice_set (objects os m) d.object_number (if c then Some (close_end s.object d.end).0 else None)) a)
-
-set_set : {A : Type 0} (xs : List A) (i : ℕ) (x y : A) → slice_set (slice_set xs i x) i y ≡ slice_set xs i y
-set_set [] i x y = refl
-set_set (z ∷ xs) zero x y = refl
-set_set (z ∷ xs) (suc i) x y = ap (λ r. z ∷ r) (set_set xs i x y)
 
 closed_other_key : (s : Shared) (e : End) → other_key (closed_in s e) e ≡ other_key s e
 closed_other_key s First = refl

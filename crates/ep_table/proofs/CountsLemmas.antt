@@ -1,19 +1,16 @@
 -- The counts of a description change.
-use Rattle.std.proofs.Common.{List, None, Option, Some, [], ap, arith, get_or, inl, inr, length, map, refl, slice_set, subst, suc, sym, zero, ℕ, ◌+◌, ◌∙◌, ◌∷◌, ◌≡◌, ◌≢◌, ◌≤◌, ◌<◌}
+use Rattle.std.proofs.Common.{List, None, Option, Some, [], ap, arith, get_or, inl, inr, length, map, refl, slice_set, subst, suc, sym, zero, ℕ, ◌+◌, ◌∙◌, ◌∷◌, ◌≡◌, ◌≢◌, ◌≤◌}
 use Rattle.std.proofs.lemmas.List.{get_or-set_other}
+use Rattle.ep_facts.proofs.NatFacts.{same_or_not}
+use Rattle.ep_facts.proofs.ListFacts.{map_set}
 use Rattle.ep_table.specs.ByNumber.{NumberedBy, contents_by}
 use Rattle.ep_table.specs.Stored.{AllBacked, AllFewer, AllOwned, Backs, count_in, counts, holds_in, key_number, names_in, number_in, place_in, places}
 use Rattle.ep_table.specs.Value.{count_at}
 use Rattle.ep_table.specs.declared.words.Description.{Description}
 use Rattle.ep_table.specs.declared.words.Shared.{Shared}
-use Rattle.ep_table.proofs.ByNumberLemmas.{content_there, contents_length, contents_next, next_here, next_other, numbered_next, same_or_not}
+use Rattle.ep_table.proofs.ByNumberLemmas.{content_there, contents_length, contents_next, next_here, next_other, numbered_next}
 use Rattle.ep_table.proofs.QueueLemmas.{set_same}
 use Rattle.ep_table.proofs.StoreLemmas.{key_at}
-
-pub map_set : {A B : Type 0} (f : A → B) (xs : List A) (i : ℕ) (x : A) → map f (slice_set xs i x) ≡ slice_set (map f xs) i (f x)
-map_set f [] i x = refl
-map_set f (y ∷ xs) zero x = refl
-map_set f (y ∷ xs) (suc i) x = ap (λ r. f y ∷ r) (map_set f xs i x)
 
 module _ (count : Description → ℕ) where
   pub counts_at : (xs : List (Option ℕ)) (m : ℕ) → count_at (map count_in xs) m ≡ count_in (get_or xs m None)

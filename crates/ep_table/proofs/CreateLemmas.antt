@@ -1,7 +1,9 @@
 -- New descriptions in the tables.
-use Rattle.std.proofs.Common.{Bool, IsSome, List, None, Option, Some, [], ap, get_or, inl, inr, length, length-append, refl, slice_set, subst, suc, sym, unwrap_or, zero, ℕ, ◌++◌, ◌+◌, ◌<◌, ◌∙◌, ◌∷◌, ◌≡◌}
+use Rattle.std.proofs.Common.{Bool, IsSome, List, None, Option, Some, [], ap, get_or, inl, inr, length, length-append, refl, slice_set, subst, sym, unwrap_or, ℕ, ◌++◌, ◌+◌, ◌<◌, ◌∙◌, ◌∷◌, ◌≡◌}
 use Rattle.std.proofs.lemmas.Bool.{false≢true}
 use Rattle.std.proofs.lemmas.List.{get_or-set_same, get_or_past}
+use Rattle.ep_facts.proofs.NatFacts.{below_or}
+use Rattle.ep_facts.proofs.ListFacts.{map_set, set_set}
 use Rattle.ep_base.specs.declared.ids.DescId.{DescId}
 use Rattle.ep_base.specs.declared.object.End.TheVariants.{First}
 use Rattle.ep_machine.specs.Files.{Place, Table, table_of}
@@ -14,16 +16,10 @@ use Rattle.ep_table.specs.View.{LiveAll, table_in, tables_in, value_of}
 use Rattle.ep_table.specs.declared.table.Table.{Table as Slots}
 use Rattle.ep_table.specs.declared.tables.Tables.TheInside.{Inside}
 use Rattle.ep_table.specs.declared.words.Descriptor.{Descriptor}
-use Rattle.ep_table.proofs.ByNumberLemmas.{below_or}
-use Rattle.ep_table.proofs.ViewLemmas.{enter_seen, key_live, key_number_is, lists_at, live_at, live_entered, live_set, map_set, more_live, same_table, same_tables, tables_at}
+use Rattle.ep_table.proofs.ViewLemmas.{enter_seen, key_live, key_number_is, lists_at, live_at, live_entered, live_set, more_live, same_table, same_tables, tables_at}
 
 pub within : {X : Type 0} (xs : List (Option X)) (i : ℕ) → IsSome (get_or xs i None) → i < length xs
 within {X} xs i h = elim (below_or i (length xs)) [ inl l ↦ l | inr le ↦ absurd (false≢true (subst (λ (o : Option X). IsSome o) (get_or_past xs i None le) h)) ]
-
-pub set_set : {A : Type 0} (xs : List A) (i : ℕ) (x y : A) → slice_set (slice_set xs i x) i y ≡ slice_set xs i y
-set_set [] i x y = refl
-set_set (z ∷ xs) zero x y = refl
-set_set (z ∷ xs) (suc i) x y = ap (λ r. z ∷ r) (set_set xs i x y)
 
 pub process_some : (keys : List (Option ℕ)) (q : Process) → IsSome (table_in keys q) → IsSome q
 process_some keys None h = h

@@ -1,6 +1,7 @@
 -- The death of a description, as the machine has it.
 use Rattle.std.proofs.Common.{List, None, Option, Some, [], ap, get_or, map, slice_set, subst, sym, unwrap_or, ℕ, ◌++◌, ◌==◌, ◌∙◌, ◌∷◌, ◌≡◌, if◌then◌else◌}
 use Rattle.std.specs.List.{list_any}
+use Rattle.ep_facts.proofs.ListFacts.{map_set}
 use Rattle.ep_base.specs.declared.ids.DescId.{DescId}
 use Rattle.ep_base.specs.declared.object.Raised.{Raised}
 use Rattle.ep_machine.specs.Deaths.{die}
@@ -20,7 +21,6 @@ use Rattle.ep_table.proofs.CloseLemmas.{left_was, objects_closed, places_left}
 use Rattle.ep_table.proofs.ByNumberLemmas.{contents_next}
 use Rattle.ep_table.proofs.OtherLemmas.{other_left}
 use Rattle.ep_table.proofs.QueueLemmas.{keyed_less, keyed_rest, no_holds, no_names, others_differ, queue_less, queued_push, set_same}
-use Rattle.ep_table.proofs.CountsLemmas.{map_set}
 use Rattle.ep_table.proofs.StoreLemmas.{backs, key_at, number_is, object_is, place_is, thing_is}
 
 subst3 : {ds ds1 : List (Option Place)} {names names1 holds holds1 dying : List ℕ} → ds ≡ ds1 → names ≡ names1 → holds ≡ holds1 → Queue ds names holds dying → Queue ds1 names1 holds1 dying

@@ -7,9 +7,9 @@ use Rattle.ep_base.specs.declared.errno.Errno.{Errno}
 use Rattle.ep_base.specs.declared.errno.Errno.TheVariants.{Ebadf, Emfile}
 use Rattle.ep_base.specs.declared.ids.DescId.{DescId}
 use Rattle.ep_base.specs.declared.ids.Fd.{Fd}
-use Rattle.std.proofs.lemmas.Bool.{false≢true}
 use Rattle.std.proofs.lemmas.Bool.Decides.{nat_tests}
 use Rattle.std.proofs.lemmas.Option.{none-some}
+use Rattle.ep_facts.proofs.OptionFacts.{number_of as some_is}
 use Rattle.ep_machine.specs.Effect.{first}
 use Rattle.ep_machine.specs.Files.{named_by, numbers_of, under}
 use Rattle.ep_machine.specs.FilesCalls.{FilesCall, dup_of, one_of, two_of}
@@ -88,10 +88,6 @@ full_is m n h = let e : nat_le m n ≡ true = grind (arith, nat_tests, h) in ap 
 
 pub free_is : (m n : ℕ) → n < m → first ((nat_le m n, Emfile) ∷ []) ≡ None
 free_is m n h = let e : nat_le m n ≡ false = grind (arith, nat_tests, h) in ap (λ (b : Bool). first ((b, Emfile) ∷ [])) e
-
-some_is : (o : Option ℕ) → IsSome o → o ≡ Some (unwrap_or o 0)
-some_is None h = absurd (false≢true h)
-some_is (Some x) h = refl
 
 -- what a key that was found stands for
 pub found_is : (v : Seen) (p : ℕ) (fd : ℤ) (key : DescId) → number_under v key ≡ under v.files p fd → IsSome (number_under v key) → Some (number_of v key) ≡ under v.files p fd

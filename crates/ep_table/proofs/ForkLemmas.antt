@@ -1,6 +1,7 @@
 -- A process more.
-use Rattle.std.proofs.Common.{IsSome, List, None, Option, Some, [], ap, arith, get_or, length, map, refl, subst, suc, sym, unwrap_or, ℕ, ◌++◌, ◌+◌, ◌∙◌, ◌∷◌, ◌≡◌}
+use Rattle.std.proofs.Common.{IsSome, List, None, Option, Some, [], ap, arith, get_or, length, refl, subst, sym, unwrap_or, ℕ, ◌++◌, ◌+◌, ◌∙◌, ◌∷◌, ◌≡◌}
 use Rattle.std.proofs.lemmas.Bool.{false≢true}
+use Rattle.ep_facts.proofs.ListFacts.{map_push}
 use Rattle.ep_machine.specs.Files.{Table}
 use Rattle.ep_machine.specs.Lists.{numbered}
 use Rattle.ep_machine.specs.Tables.{fork}
@@ -20,10 +21,6 @@ use Rattle.ep_table.proofs.InsertLemmas.{numbered_push}
 use Rattle.ep_table.proofs.UnnameLemmas.{numbers_are, table_there}
 use Rattle.ep_table.proofs.TableLemmas.{counts_forked}
 use Rattle.ep_table.proofs.ViewLemmas.{live_process, table_seen}
-
-map_push : {A B : Type 0} (f : A → B) (xs : List A) (x : A) → map f (xs ++ x ∷ []) ≡ map f xs ++ f x ∷ []
-map_push f [] x = refl
-map_push f (y ∷ xs) x = ap (λ r. f y ∷ r) (map_push f xs x)
 
 live_push : (keys : List (Option ℕ)) (ps : List Process) (p : Process) → LiveAll keys ps → LiveProcess keys p → LiveAll keys (ps ++ p ∷ [])
 live_push keys [] p h k = (k, tt)

@@ -1,5 +1,7 @@
 -- New descriptions.
 use Rattle.std.proofs.Common.{List, None, Option, Some, [], ap, arith, get_or, length, map, refl, subst, sym, inl, inr, ℕ, ◌++◌, ◌+◌, ◌∙◌, ◌∷◌, ◌≡◌, ◌≢◌}
+use Rattle.ep_facts.proofs.NatFacts.{same_or_not}
+use Rattle.ep_facts.proofs.ListFacts.{map_push}
 use Rattle.slab.specs.Slab.{Slab, Updates, get}
 use Rattle.ep_base.specs.declared.ids.DescId.{DescId}
 use Rattle.ep_base.specs.declared.object.End.{End}
@@ -13,7 +15,7 @@ use Rattle.ep_table.specs.Value.{AddsKey, InsertsOne, InsertsTwo, Queue, Things}
 use Rattle.ep_table.specs.declared.store.Store.TheInside.{Inside}
 use Rattle.ep_table.specs.declared.words.Description.{Description}
 use Rattle.ep_table.specs.declared.words.Shared.{Shared}
-use Rattle.ep_table.proofs.ByNumberLemmas.{contents_length, contents_more, numbered_more, same_or_not}
+use Rattle.ep_table.proofs.ByNumberLemmas.{contents_length, contents_more, numbered_more}
 use Rattle.ep_table.proofs.QueueLemmas.{queue_more}
 use Rattle.ep_table.proofs.CountsLemmas.{counts_length}
 use Rattle.ep_table.proofs.StoreLemmas.{key_at}
@@ -83,10 +85,6 @@ numbered_push k (Some x ∷ xs) p = omega (arith, numbered_push (k + 1) xs p)
 -- as many as there are keys
 pub counted_more : (a b : ℕ) (xs ys : List (Option Place)) (p : Place) → a ≡ length (numbered 0 xs) → b ≡ a + 1 → ys ≡ xs ++ Some p ∷ [] → b ≡ length (numbered 0 ys)
 counted_more a b xs ys p e f g = omega (arith, numbered_push 0 xs p, ap (λ (zs : List (Option Place)). length (numbered 0 zs)) g)
-
-map_push : {A B : Type 0} (f : A → B) (xs : List A) (x : A) → map f (xs ++ x ∷ []) ≡ map f xs ++ f x ∷ []
-map_push f [] x = refl
-map_push f (y ∷ xs) x = ap (λ r. f y ∷ r) (map_push f xs x)
 
 -- counts of one more
 counts_more : (count : Description → ℕ) (ds ds1 : List (Option Description)) (key : ℕ) (d : Description) → Inserted ds ds1 key d → NumberedBy number_in ds d.number → counts count ds1 (d.number + 1) ≡ counts count ds d.number ++ count d ∷ []

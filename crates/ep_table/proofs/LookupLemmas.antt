@@ -1,9 +1,10 @@
 -- What a descriptor number names.
-use Rattle.std.proofs.Common.{Bool, true, not, nat_lt, arith, ◌&&◌, ◌==◌, IsSome, List, None, Option, Some, Bor, ap, get_or, is_some, negsuc, option_copied, pos, refl, subst, sym, unwrap_or, ℕ, ℤ, ◌∙◌, ◌≡◌, false}
+use Rattle.std.proofs.Common.{Bool, true, not, nat_lt, arith, ◌&&◌, ◌==◌, IsSome, List, None, Option, Some, Bor, ap, get_or, is_some, negsuc, option_copied, pos, refl, subst, sym, ℕ, ℤ, ◌∙◌, ◌≡◌, false}
 use Rattle.ep_base.specs.declared.ids.DescId.{DescId}
 use Rattle.ep_machine.specs.Files.{Table as Numbers, description_in, slot_under, under, table_of}
 use Rattle.ep_table.specs.Processes.{items_of, process_of, slots_of}
 use Rattle.std.proofs.lemmas.Bool.Decides.{nat_tests}
+use Rattle.ep_facts.proofs.OptionFacts.{number_of}
 use Rattle.ep_machine.specs.Deaths.{named_in_tables}
 use Rattle.ep_machine.specs.Files.{is_live}
 use Rattle.ep_machine.specs.Lists.{is_among}
@@ -38,13 +39,9 @@ abbrev pub key_of : Option Descriptor → Option DescId
 key_of None = None
 key_of (Some x) = Some x.description
 
-some_is : (o : Option ℕ) → IsSome o → o ≡ Some (unwrap_or o 0)
-some_is None h = absurd (cc)
-some_is (Some x) h = refl
-
 number_in : (keys : List (Option ℕ)) (v : Seen) (o : Option Descriptor) → keys ≡ v.keys → LiveSlot keys o → number_found v (key_of o) ≡ description_in (slot_in keys o)
 number_in keys v None e h = refl
-number_in keys v (Some x) e h = ap (λ (ks : List (Option ℕ)). number_at ks x.description) (sym e) ∙ some_is (number_at keys x.description) h
+number_in keys v (Some x) e h = ap (λ (ks : List (Option ℕ)). number_at ks x.description) (sym e) ∙ number_of (number_at keys x.description) h
 
 -- a number that is none below 0
 under_at : {A : Type 0} (k : Inside A) (v : Seen) (p i : ℕ) (o : Option Descriptor) → IsTables k → value_of k ≡ v → o ≡ get_or (slots_of (process_of k.processes.items p)) i None → number_found v (key_of o) ≡ under v.files p (pos i)

@@ -1,5 +1,5 @@
 -- The lowest free number.
-use Rattle.std.proofs.Common.{None, Option, Some, [], add-one, ap, arith, drop, get_or, length, refl, slice_set, suc, zero, List, ℕ, ◌+◌, ◌<◌, ◌≡◌, ◌≤◌, ◌∷◌, ◌++◌, is_some, true, false}
+use Rattle.std.proofs.Common.{None, Option, Some, [], add-one, ap, arith, drop, length, refl, slice_set, suc, zero, List, ℕ, ◌+◌, ◌<◌, ◌≡◌, ◌≤◌, ◌∷◌, ◌++◌}
 use Rattle.ep_machine.specs.Lists.{enter, lowest_free}
 
 pub lowest_within : {X : Type 0} (xs : List (Option X)) → lowest_free xs ≤ length xs

@@ -1,7 +1,11 @@
 -- The queue of the descriptions that nothing names or holds.
 use Rattle.std.proofs.Common.{Bool, List, None, Option, Some, [], ap, arith, false, get_or, inl, inr, is_some, length, length-append, not, refl, slice_set, suc, sym, true, zero, ℕ, ◌&&◌, ◌++◌, ◌==◌, ◌∙◌, ◌∷◌, ◌≡◌, ◌≢◌, ◌≤◌, ◌||◌}
-use Rattle.std.proofs.lemmas.Bool.Decides.{nat_tests}
 use Rattle.std.proofs.lemmas.List.{get_or-set_other}
+use Rattle.std.proofs.lemmas.Bool.{or_parts}
+use Rattle.ep_facts.proofs.AmongFacts.{among_append}
+use Rattle.ep_facts.proofs.OptionFacts.{value_of}
+use Rattle.ep_facts.proofs.BoolFacts.{first_of_and, from_not, second_of_and}
+use Rattle.ep_facts.proofs.NatFacts.{same_or_not, same_test, test_apart, zero_test}
 use Rattle.ep_base.specs.declared.ids.DescId.{DescId}
 use Rattle.ep_machine.specs.Files.{Place}
 use Rattle.ep_machine.specs.Lists.{are_distinct, is_among, numbered}
@@ -9,25 +13,6 @@ use Rattle.ep_table.specs.Stored.{AllKeyed, queued}
 use Rattle.ep_table.specs.Value.{AddsKey, Queue, count_at, is_unused, number_at}
 use Rattle.ep_table.specs.declared.words.Dying.{Dying}
 use Rattle.ep_table.proofs.CloseLemmas.{less_numbered}
-use Rattle.ep_table.proofs.ByNumberLemmas.{same_or_not}
-
-test_same : (a b : ℕ) → a ≡ b → (a == b) ≡ true
-test_same a b e = grind (arith, nat_tests, e)
-
-test_apart : (a b : ℕ) → a ≢ b → (a == b) ≡ false
-test_apart a b e = grind (arith, nat_tests, e)
-
-and_left : (a b : Bool) → (a && b) ≡ true → a ≡ true
-and_left true b h = refl
-and_left false b h = absurd cc
-
-and_right : (a b : Bool) → (a && b) ≡ true → b ≡ true
-and_right true b h = h
-and_right false b h = absurd cc
-
-not_true : (a : Bool) → not a ≡ true → a ≡ false
-not_true true h = absurd cc
-not_true false h = refl
 
 pub set_same : {A : Type 0} (xs : List A) (i : ℕ) (x y : A) → get_or xs i y ≡ x → slice_set xs i x ≡ xs
 set_same [] i x y h = refl
@@ -39,24 +24,20 @@ none_there [] i = refl
 none_there (x ∷ xs) zero = refl
 none_there (x ∷ xs) (suc i) = none_there xs i
 
-place_there : (o : Option Place) → is_some o ≡ true → (p : Place) × (o ≡ Some p)
-place_there None h = absurd cc
-place_there (Some p) h = (p, refl)
-
 -- no more distinct numbers than there are live ones
 pigeons : (xs : List ℕ) (ds : List (Option Place)) → are_distinct xs ≡ true → ((d : ℕ) → is_among xs d ≡ true → is_some (get_or ds d None) ≡ true) → length xs ≤ length (numbered 0 ds)
 pigeons [] ds h l = omega arith
 pigeons (x ∷ xs) ds h l =
-    let first : is_among xs x ≡ false = not_true (is_among xs x) (and_left (not (is_among xs x)) (are_distinct xs) h) in
-    let at = place_there (get_or ds x None) (l x (rw (test_same x x refl) refl)) in
+    let first : is_among xs x ≡ false = from_not (is_among xs x) (first_of_and (not (is_among xs x)) (are_distinct xs) h) in
+    let at = value_of (get_or ds x None) (l x (rw (same_test x x refl) refl)) in
     let rest : (d : ℕ) → is_among xs d ≡ true → is_some (get_or (slice_set ds x None) d None) ≡ true = λ d m.
     (let ne : d ≢ x = λ e. (let a : is_among xs d ≡ false = ap (is_among xs) e ∙ first in absurd cc) in
     ap is_some (get_or-set_other ds x d None None ne) ∙ l d (rw (test_apart d x ne) m)) in
-    omega (arith, pigeons xs (slice_set ds x None) (and_right (not (is_among xs x)) (are_distinct xs) h) rest, less_numbered 0 x ds at.0 at.1)
+    omega (arith, pigeons xs (slice_set ds x None) (second_of_and (not (is_among xs x)) (are_distinct xs) h) rest, less_numbered 0 x ds at.0 at.1)
 
 module _ (ds : List (Option Place)) (names holds dying : List ℕ) (q : Queue ds names holds dying) where
   pub queue_fits : length dying ≤ length (numbered 0 ds)
-  queue_fits = pigeons dying ds q.distinct (λ d h. and_left (is_some (get_or ds d None)) (count_at names d == 0 && count_at holds d == 0) (sym (q.law d) ∙ h))
+  queue_fits = pigeons dying ds q.distinct (λ d h. first_of_and (is_some (get_or ds d None)) (count_at names d == 0 && count_at holds d == 0) (sym (q.law d) ∙ h))
 
   -- the counts of one description change
   module _ (n : ℕ) (names1 holds1 : List ℕ) (a : (d : ℕ) → d ≢ n → count_at names1 d ≡ count_at names d) (b : (d : ℕ) → d ≢ n → count_at holds1 d ≡ count_at holds d) where
@@ -73,7 +54,7 @@ module _ (ds : List (Option Place)) (names holds dying : List ℕ) (q : Queue ds
     queue_put h k = record {
       distinct = rw (q.law n ∙ h) q.distinct;
       law = λ d. elim (same_or_not d n) [
-        | inl e ↦ rw (test_same d n e) (sym (ap (is_unused ds names1 holds1) e ∙ k))
+        | inl e ↦ rw (same_test d n e) (sym (ap (is_unused ds names1 holds1) e ∙ k))
         | inr ne ↦ rw (test_apart d n ne) (q.law d ∙ sym (apart d ne))
       ];
     }
@@ -96,26 +77,23 @@ queue_more ds names holds dying p e f q = record { distinct = q.distinct; law = 
 -- the first one dies
 module _ (ds : List (Option Place)) (names holds dying : List ℕ) (n : ℕ) (q : Queue ds names holds (n ∷ dying)) where
   pub others_differ : is_among dying n ≡ false
-  others_differ = not_true (is_among dying n) (and_left (not (is_among dying n)) (are_distinct dying) q.distinct)
+  others_differ = from_not (is_among dying n) (first_of_and (not (is_among dying n)) (are_distinct dying) q.distinct)
 
   unused : is_unused ds names holds n ≡ true
-  unused = sym (q.law n) ∙ rw (test_same n n refl) refl
+  unused = sym (q.law n) ∙ rw (same_test n n refl) refl
 
   zero_counts : (count_at names n == 0 && count_at holds n == 0) ≡ true
-  zero_counts = and_right (is_some (get_or ds n None)) (count_at names n == 0 && count_at holds n == 0) unused
-
-  is_zero : (m : ℕ) → (m == 0) ≡ true → m ≡ 0
-  is_zero m h = grind (arith, nat_tests, h)
+  zero_counts = second_of_and (is_some (get_or ds n None)) (count_at names n == 0 && count_at holds n == 0) unused
 
   pub no_names : count_at names n ≡ 0
-  no_names = is_zero (count_at names n) (and_left (count_at names n == 0) (count_at holds n == 0) zero_counts)
+  no_names = zero_test (count_at names n) (first_of_and (count_at names n == 0) (count_at holds n == 0) zero_counts)
 
   pub no_holds : count_at holds n ≡ 0
-  no_holds = is_zero (count_at holds n) (and_right (count_at names n == 0) (count_at holds n == 0) zero_counts)
+  no_holds = zero_test (count_at holds n) (second_of_and (count_at names n == 0) (count_at holds n == 0) zero_counts)
 
   pub queue_less : Queue (slice_set ds n None) names holds dying
   queue_less = record {
-    distinct = and_right (not (is_among dying n)) (are_distinct dying) q.distinct;
+    distinct = second_of_and (not (is_among dying n)) (are_distinct dying) q.distinct;
     law = λ d. elim (same_or_not d n) [
       | inl e ↦
           let g : get_or (slice_set ds n None) d None ≡ None = ap (λ (i : ℕ). get_or (slice_set ds n None) i None) e ∙ none_there ds n in
@@ -153,20 +131,11 @@ keyed_more old new key n adds (x ∷ xs) h =
     let ne : x.key.0 ≢ key.0 = λ e. (let a = ap (λ (i : ℕ). get_or old i None) e in let b = adds.free in let c = h.0 in absurd cc) in
     (adds.others x.key ne ∙ h.0, keyed_more old new key n adds xs h.1)
 
-or_false : (a b : Bool) → (a || b) ≡ false → (a ≡ false) × (b ≡ false)
-or_false true b h = absurd cc
-or_false false true h = absurd cc
-or_false false false h = (refl, refl)
-
-among_append : (xs ys : List ℕ) (d : ℕ) → is_among (xs ++ ys) d ≡ (is_among xs d || is_among ys d)
-among_append [] ys d = refl
-among_append (x ∷ xs) ys d = elim (same_or_not d x) [ inl e ↦ rw (test_same d x e) refl | inr ne ↦ rw (test_apart d x ne) (among_append xs ys d) ]
-
 pub keyed_less : (keys : List (Option ℕ)) (key : DescId) (n : ℕ) → number_at keys key ≡ Some n → (xs : List Dying) → is_among (queued xs) n ≡ false → AllKeyed keys xs → AllKeyed (slice_set keys key.0 None) xs
 keyed_less keys key n is [] m h = tt
 keyed_less keys key n is (x ∷ xs) m h =
-    let split = or_false (is_among (queued xs) n) (is_among (x.number ∷ []) n) (sym (among_append (queued xs) (x.number ∷ []) n) ∙ m) in
+    let split = or_parts (is_among (queued xs) n) (is_among (x.number ∷ []) n) (sym (among_append (queued xs) (x.number ∷ []) n) ∙ m) in
     let ne : x.key.0 ≢ key.0 = λ e.
     (let a = ap (λ (i : ℕ). get_or keys i None) e in let b = h.0 in let s : n ≡ x.number = cc in
-    let t : is_among (x.number ∷ []) n ≡ true = rw (test_same n x.number s) refl in let u = split.1 in absurd cc) in
+    let t : is_among (x.number ∷ []) n ≡ true = rw (same_test n x.number s) refl in let u = split.1 in absurd cc) in
     (get_or-set_other keys key.0 x.key.0 None None ne ∙ h.0, keyed_less keys key n is xs split.0 h.1)

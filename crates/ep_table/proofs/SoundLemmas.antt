@@ -3,6 +3,8 @@ use Rattle.std.proofs.Common.{IsSome, List, None, Option, Some, ap, arith, false
 use Rattle.std.proofs.lemmas.Bool.{false≢true}
 use Rattle.std.proofs.lemmas.List.{get_or_past}
 use Rattle.std.proofs.lemmas.List.FromFn.{get_or-map-range_with_len}
+use Rattle.ep_facts.proofs.NatFacts.{below_or}
+use Rattle.ep_facts.proofs.OptionFacts.{value_of}
 use Rattle.ep_base.specs.declared.ids.DescId.{DescId}
 use Rattle.ep_machine.specs.Files.{Place, object_of, place_of}
 use Rattle.ep_machine.specs.Objects.{Object}
@@ -13,7 +15,7 @@ use Rattle.ep_table.specs.declared.store.Store.TheInside.{Inside}
 use Rattle.ep_table.specs.declared.words.Description.{Description}
 use Rattle.ep_table.specs.declared.words.Shared.{Shared}
 use Rattle.ep_table.proofs.CloseLemmas.{contents_has}
-use Rattle.ep_table.proofs.ByNumberLemmas.{below_or, content_there, contents_length, has_or, with_none}
+use Rattle.ep_table.proofs.ByNumberLemmas.{content_there, contents_length, has_or, with_none}
 use Rattle.ep_table.proofs.CountsLemmas.{counts_at, counts_length}
 use Rattle.ep_table.proofs.StoreLemmas.{key_at, object_is, place_is, thing_is}
 
@@ -32,13 +34,9 @@ there k v same key d h =
     there_of k.descriptions.slots key.0 d (get_or k.descriptions.slots key.0 None) refl
     (sym (key_at k.descriptions.slots key.0) ∙ (ap (λ (w : Things). number_at w.keys key) same ∙ h))
 
-place_found : (o : Option Place) → is_some o ≡ true → (p : Place) × (o ≡ Some p)
-place_found None h = absurd cc
-place_found (Some p) h = (p, refl)
-
 keyed_of : (slots : List (Option Description)) (n : ℕ) → NumberedBy number_in slots n → (d : ℕ) → is_some (get_or (places slots n) d None) ≡ true → (key : DescId) × (number_at (map key_number slots) key ≡ Some d)
 keyed_of slots n num d h =
-    let p = place_found (get_or (places slots n) d None) h in
+    let p = value_of (get_or (places slots n) d None) h in
     let has = contents_has slots n num d p.0 p.1 in
     let key : DescId = record { 0 = has.0.key } in
     let f : number_at (map key_number slots) key ≡ Some (number_in has.0.it) = key_at slots has.0.key ∙ ap key_number has.0.is in

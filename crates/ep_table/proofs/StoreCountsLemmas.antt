@@ -1,8 +1,9 @@
 -- The counts of a description change in the store.
-use Rattle.std.proofs.Common.{Bool, List, None, Option, Some, ap, arith, cond, count_by, false, get_or, is_some, length, map, refl, slice_set, subst, suc, sym, true, vec_capacity, zero, ℕ, [], ◌&&◌, ◌++◌, ◌+◌, ◌-◌, ◌<◌, ◌==◌, ◌∙◌, ◌∷◌, ◌≡◌, ◌≤◌}
+use Rattle.std.proofs.Common.{Bool, List, None, Option, Some, ap, arith, cond, count_by, false, get_or, is_some, length, map, slice_set, subst, suc, sym, true, vec_capacity, zero, ℕ, [], ◌&&◌, ◌++◌, ◌+◌, ◌-◌, ◌<◌, ◌==◌, ◌∙◌, ◌∷◌, ◌≡◌, ◌≤◌}
 use Rattle.std.proofs.lemmas.Bool.Decides.{nat_tests}
 use Rattle.std.proofs.lemmas.List.Sums.{sum_by-cons}
 use Rattle.std.specs.declared.vec.Vec.{Vec}
+use Rattle.std.proofs.Math.Bool.{and-false}
 use Rattle.slab.specs.Slab.{slab_len, with_value}
 use Rattle.ep_base.specs.declared.ids.DescId.{DescId}
 use Rattle.ep_machine.specs.Lists.{is_among, numbered}
@@ -31,12 +32,8 @@ not_zero m h = grind (arith, nat_tests, h)
 pub named_tests : (m : ℕ) (c : Bool) → 0 < m → (m == 0 && c) ≡ false
 named_tests m c h = ap (λ (t : Bool). t && c) (not_zero m h)
 
-and_false : (c : Bool) → (c && false) ≡ false
-and_false true = refl
-and_false false = refl
-
 pub held_tests : (c : Bool) (m : ℕ) → 0 < m → (c && m == 0) ≡ false
-held_tests c m h = ap (λ (t : Bool). c && t) (not_zero m h) ∙ and_false c
+held_tests c m h = ap (λ (t : Bool). c && t) (not_zero m h) ∙ and-false c
 
 module _ {A : Type 0} (k : Inside A) (v : Things) (inv : IsStore k) (same : things k ≡ v) (key : DescId) (d : Description) (is : get_or k.descriptions.slots key.0 None ≡ Some d) where
   abbrev ds : List (Option Description)

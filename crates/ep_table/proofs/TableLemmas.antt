@@ -1,6 +1,7 @@
 -- One table changes, and the counts with it.
 use Rattle.std.proofs.Common.{Bool, IsSome, List, None, Option, Some, [], ap, arith, false, get_or, if◌then◌else◌, inl, inr, length, map, refl, slice_set, subst, suc, sym, true, unwrap_or, zero, ℕ, ◌++◌, ◌+◌, ◌∙◌, ◌∷◌, ◌≡◌, ◌≤◌, ◌||◌}
 use Rattle.std.proofs.lemmas.Bool.{cases_Bool, false≢true}
+use Rattle.ep_facts.proofs.ListFacts.{map_set}
 use Rattle.ep_machine.specs.Deaths.{named_in_tables}
 use Rattle.ep_machine.specs.Files.{Table, numbers_of, table_of}
 use Rattle.ep_machine.specs.Lists.{numbered, place_at}
@@ -14,7 +15,7 @@ use Rattle.ep_table.specs.declared.tables.Tables.TheInside.{Inside}
 use Rattle.ep_table.specs.declared.words.Descriptor.{Descriptor}
 use Rattle.ep_table.proofs.TimesLemmas.{all_push, all_set, process_times, slot_times, table_times, table_unset}
 use Rattle.ep_table.proofs.CreateLemmas.{with_store}
-use Rattle.ep_table.proofs.ViewLemmas.{live_at, live_set, map_set, tables_at}
+use Rattle.ep_table.proofs.ViewLemmas.{live_at, live_set, tables_at}
 
 table_some : (o : Option Table) → IsSome o → o ≡ Some (unwrap_or o [])
 table_some None h = absurd (false≢true h)

@@ -1,18 +1,11 @@
 -- How often tables name descriptions.
 use Rattle.std.proofs.Common.{Bool, IsSome, List, None, Option, Some, [], ap, arith, false, filter_map, get_or, if◌then◌else◌, inl, inr, length, nat_lt, refl, slice_set, suc, sym, true, zero, zero-add, ℕ, ◌++◌, ◌+◌, ◌-◌, ◌<◌, ◌==◌, ◌∙◌, ◌∷◌, ◌≡◌, ◌≢◌, ◌||◌}
-use Rattle.std.proofs.lemmas.Bool.Decides.{nat_tests}
 use Rattle.std.proofs.lemmas.List.{get_or-set_other, get_or-set_same, get_or_past}
+use Rattle.ep_facts.proofs.NatFacts.{below_or, same_or_not, same_test, suc_same, suc_zero, test_apart, zero_suc}
 use Rattle.ep_machine.specs.Deaths.{named_in, named_in_tables}
 use Rattle.ep_machine.specs.Files.{Slot, Table, description_in}
 use Rattle.ep_machine.specs.Lists.{enter, is_among, place_at}
 use Rattle.ep_table.specs.Value.{count_at, less_at, more_at, times}
-use Rattle.ep_table.proofs.ByNumberLemmas.{below_or, same_or_not}
-
-test_same : (a b : ℕ) → a ≡ b → (a == b) ≡ true
-test_same a b e = grind (arith, nat_tests, e)
-
-test_apart : (a b : ℕ) → a ≢ b → (a == b) ≡ false
-test_apart a b e = grind (arith, nat_tests, e)
 
 pub times_append : (d : ℕ) (xs ys : List ℕ) → times d (xs ++ ys) ≡ times d xs + times d ys
 times_append d [] ys = omega arith
@@ -77,7 +70,7 @@ abbrev pub once : ℕ → ℕ → ℕ
 once d n = if d == n then 1 else 0
 
 once_same : (d n : ℕ) → d ≡ n → once d n ≡ 1
-once_same d n e = rw (test_same d n e) refl
+once_same d n e = rw (same_test d n e) refl
 
 once_apart : (d n : ℕ) → d ≢ n → once d n ≡ 0
 once_apart d n e = rw (test_apart d n e) refl
@@ -96,15 +89,6 @@ count_less names n d h = elim (same_or_not d n) [
   | inl e ↦ omega (arith, h, set_at names n (count_at names n - 1) d (in_range names n h) e, once_same d n e, ap (count_at names) e)
   | inr ne ↦ omega (arith, get_or-set_other names n d (count_at names n - 1) 0 ne, once_apart d n ne)
 ]
-
-zero_suc : (k : ℕ) → zero ≡ suc k → ⊥
-zero_suc k e = omega arith
-
-suc_zero : (k : ℕ) → suc k ≡ zero → ⊥
-suc_zero k e = omega arith
-
-suc_same : (j k : ℕ) → suc j ≡ suc k → j ≡ k
-suc_same j k e = omega arith
 
 pub count_push : (names : List ℕ) (n d : ℕ) → length names ≡ n → count_at (names ++ 1 ∷ []) d ≡ count_at names d + once d n
 count_push [] n zero e = omega (arith, once_same zero n e)

@@ -3,6 +3,8 @@ use Rattle.std.proofs.Common.{IfNone, IfSome, IsSome, List, None, Option, Some, 
 use Rattle.std.proofs.lemmas.Bool.{false≢true}
 use Rattle.std.proofs.lemmas.Bool.Decides.{nat_tests}
 use Rattle.std.proofs.lemmas.List.{get_or-set_other}
+use Rattle.ep_facts.proofs.ListFacts.{map_set}
+use Rattle.ep_facts.proofs.NatFacts.{is_positive}
 use Rattle.ep_base.specs.declared.ids.DescId.{DescId}
 use Rattle.ep_machine.specs.Deaths.{named_in, named_in_tables}
 use Rattle.ep_machine.specs.Files.{Files, Slot, Table, description_in, under}
@@ -21,7 +23,7 @@ use Rattle.ep_table.proofs.TimesLemmas.{all_set, among_times, once, process_time
 use Rattle.ep_table.proofs.CreateLemmas.{with_store}
 use Rattle.ep_table.proofs.AddLemmas.{Fits}
 use Rattle.ep_table.proofs.QueueLemmas.{no_names}
-use Rattle.ep_table.proofs.ViewLemmas.{live_at, map_set, tables_at}
+use Rattle.ep_table.proofs.ViewLemmas.{live_at, tables_at}
 use Rattle.ep_table.proofs.TableLemmas.{counts_ended, numbers_at, slot_within, table_within}
 
 pub slot_named : (o : Option Slot) (n d : ℕ) → description_in o ≡ Some n → slot_times d o ≡ once d n
@@ -33,9 +35,6 @@ once_one n = rw (let e : (n == n) ≡ true = grind (arith, nat_tests) in e) refl
 
 pub positive : (n : ℕ) → nat_lt 0 n ≡ true → 0 < n
 positive n h = grind (arith, nat_tests, h)
-
-pub is_positive : (n : ℕ) → 0 < n → nat_lt 0 n ≡ true
-is_positive n h = grind (arith, nat_tests, h)
 
 module _ {A : Type 0} (k : Inside A) (inv : IsTables k) (p : ℕ) where
   abbrev ts : List (Option Table)

@@ -11,11 +11,6 @@ use Rattle.ep_table.specs.View.{LiveAll, LiveProcess, LiveSlot, LiveTable, slot_
 use Rattle.ep_table.specs.declared.table.Table.{Table as Slots}
 use Rattle.ep_table.specs.declared.words.Descriptor.{Descriptor}
 
-pub map_set : {A B : Type 0} (f : A → B) (xs : List A) (i : ℕ) (x : A) → map f (slice_set xs i x) ≡ slice_set (map f xs) i (f x)
-map_set f [] i x = refl
-map_set f (y ∷ xs) zero x = refl
-map_set f (y ∷ xs) (suc i) x = ap (λ r. f y ∷ r) (map_set f xs i x)
-
 pub lists_at : {A : Type 0} (xs : List (Option (Slots A))) (p : ℕ) → get_or (lists xs) p None ≡ process_of xs p
 lists_at [] p = refl
 lists_at (x ∷ xs) zero = refl

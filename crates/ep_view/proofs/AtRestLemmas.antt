@@ -40,6 +40,7 @@ use Rattle.ep_view.proofs.FilesLemmas.{Extends, Filed, among_either, among_first
 use Rattle.ep_view.proofs.FreshLemmas.{past_itself}
 use Rattle.ep_view.proofs.SettleLemmas.{quiet_settled, settle_changed}
 use Rattle.std.proofs.lemmas.Option.{none-some}
+use Rattle.ep_facts.proofs.OptionFacts.{some_not_none}
 use Rattle.ep_law.specs.Narrow.{IsRegular}
 use Rattle.ep_law.proofs.RegularLemmas.{WellMade, regular_settle, well_made_opening, well_made_step}
 
@@ -85,16 +86,12 @@ pub kind_at : (f : Files) (p : Option Place) → is_none p ≡ false → kind_of
 kind_at f None live = cc
 kind_at f (Some p) live = refl
 
-some_is_no_none : {X : Type 0} (o : Option X) → is_some o ≡ true → is_none o ≡ false
-some_is_no_none None h = cc
-some_is_no_none (Some x) h = refl
-
 pub object_extends : (s : State) (p : ℕ) (fd : ℤ) (asked : ObjectCall) → AtRest s → names_nothing s.files p fd ≡ false → Extends s.files (object_change s p fd asked).1.files
 object_extends s p fd asked h there =
     let d = named_by s.files p fd in
     let k = object_number (place_of s.files d) in
     let x = (object_effect (object_under s.files p fd) (side_under s.files p fd) s.now asked).1 in
-    let live = some_is_no_none (place_of s.files d) (named_lives s.files p fd (filed s h) there) in
+    let live = some_not_none (place_of s.files d) (named_lives s.files p fd (filed s h) there) in
     extends_with_object s.files k x (λ shows. effect_kind _ (side_under s.files p fd) s.now asked ∙ (kind_there (object_of s.files d) ∙ kind_at s.files (place_of s.files d) live))
 
 quiet_object_change : (s : State) (p : ℕ) (fd : ℤ) (asked : ObjectCall) → AtRest s → names_nothing s.files p fd ≡ false → Changed (object_change s p fd asked).1

@@ -2,6 +2,9 @@
 use Rattle.std.proofs.Common.{◌≡◌, ℕ, zero, suc, ◌==◌, ◌&&◌, ◌||◌, ◌∙◌, Bool, true, false, List, [], ◌∷◌, None, Option, Some, ap, bit_or, cond, filter, if◌then◌else◌, map, nat_lt, refl, sym, unwrap_or}
 use Rattle.std.specs.List.{list_any}
 use Rattle.std.specs.Int.Bits.{and_zero_l}
+use Rattle.std.proofs.Math.Bool.{and-false}
+use Rattle.ep_facts.proofs.NatFacts.{same_nat}
+use Rattle.ep_facts.proofs.BoolFacts.{second_of_and}
 use Rattle.ep_machine.specs.Bits.{ERR, HUP, IN, OUT, RDHUP, asked, has_bit, union, when}
 use Rattle.ep_machine.specs.Counts.{brings, every_shown_bit, holds_wanted}
 use Rattle.ep_machine.specs.Files.{Files, is_live, object_of}
@@ -11,7 +14,6 @@ use Rattle.ep_machine.specs.Readiness.{is_fresh}
 use Rattle.ep_machine.specs.Spread.{arrived, is_reached, is_reached_within, passes_on_by, raised_alive, raised_of, reaching_of, spread}
 use Rattle.ep_machine.specs.State.{State, Watch}
 use Rattle.ep_view.proofs.FreshLemmas.{asked_either, brings_either, alive_raised}
-use Rattle.ep_law.proofs.TestLemmas.{same_nat}
 
 -- IN reaches instances alone
 pub reaching_is : (r : ℕ → Bool) (d : ℕ) (o : Option Object) → reaching_of r d o ≡ when (is_instance (unwrap_or o plain) && r d) IN
@@ -19,15 +21,11 @@ reaching_is r d None = refl
 reaching_is r d (Some plain) = refl
 reaching_is r d o = refl
 
-never : (p : Bool) → (p && false) ≡ false
-never true = refl
-never false = refl
-
 -- no bits bring nothing
 pub zero_brings : (mask : ℕ) → brings mask 0 ≡ false
 zero_brings mask = none (asked mask every_shown_bit) where
   none : (w : ℕ) → holds_wanted w 0 ≡ false
-  none w = λ i. never (has_bit w IN) i || never (has_bit w OUT) i || never (has_bit w ERR) i || never (has_bit w HUP) i || never (has_bit w RDHUP) i
+  none w = λ i. and-false (has_bit w IN) i || and-false (has_bit w OUT) i || and-false (has_bit w ERR) i || and-false (has_bit w HUP) i || and-false (has_bit w RDHUP) i
 
 pub zero_asked : (mask : ℕ) → nat_lt 0 (asked mask 0) ≡ false
 zero_asked mask = ap (nat_lt 0) (and_zero_l (union (mask ∷ ERR ∷ HUP ∷ [])))
@@ -87,12 +85,8 @@ module _ (after : State) (g : Files) (n : ℕ) (raised : List (ℕ × ℕ)) (apa
   abbrev note : Watch → KernelWatch
   note x = freshened n raised (kernel_watch after x)
 
-  second : (p q : Bool) → (p && q) ≡ true → q ≡ true
-  second true q h = h
-  second false q h = cc
-
   target_lives : (x : Watch) → stays x ≡ true → is_live g x.target ≡ true
-  target_lives x h = second (is_live g x.instance) (is_live g x.target) h
+  target_lives x h = second_of_and (is_live g x.instance) (is_live g x.target) h
 
   -- the bits of the spread at its target
   bits_are : (r : ℕ → Bool) (x : Watch) → stays x ≡ true → bit_or (raised_of live x.target) (reaching_of r x.target (object_of g x.target)) ≡ bit_or (raised_of raised x.target) (when (watches_instance g (kernel_watch after x) && r x.target) IN)

@@ -1,6 +1,6 @@
 -- What is left once the descriptions that nothing names are dead, and what their deaths raise there.
 use Rattle.std.proofs.Common.{◌≡◌, ◌∙◌, ◌==◌, ◌⊎◌, ℕ, true, false, List, [], ◌∷◌, None, Option, Some, ap, get_or, if◌then◌else◌, inl, inr, is_some, refl, set, subst, sym, unwrap_or, Bool, ◌≢◌, zero, suc, ◌||◌, bit_or}
-use Rattle.std.proofs.lemmas.Bool.{false≢true, cases_Bool}
+use Rattle.std.proofs.lemmas.Bool.{cases_Bool, false≢true, or_parts}
 use Rattle.ep_base.specs.declared.object.End.{End}
 use Rattle.ep_base.specs.declared.object.End.TheVariants.{First, Second}
 use Rattle.ep_machine.specs.Deaths.{kept_object, die_all}
@@ -8,18 +8,19 @@ use Rattle.ep_machine.specs.Files.{Files, Place, is_live, object_at, object_of, 
 use Rattle.ep_machine.specs.Lists.{are_distinct, is_among}
 use Rattle.ep_machine.specs.Objects.{Object, close_end, plain}
 use Rattle.ep_view.specs.AtRest.{can_be_watched, is_backed, kind_of}
-use Rattle.ep_law.proofs.DeathLemmas.{ArePlaced, after_all, after_first, apart_from_rest, get_other, get_place, has_here, numbers, same_or_not, still_placed, differs, raised_before, same_dead}
+use Rattle.ep_law.proofs.DeathLemmas.{ArePlaced, after_all, after_first, apart_from_rest, get_other, get_place, has_here, numbers, still_placed, raised_before, same_dead}
 use Rattle.ep_law.proofs.NamedLivesLemmas.{get_none, if_twice, place_after, places_left}
 use Rattle.ep_view.proofs.KindLemmas.{closed_kind}
 use Rattle.ep_view.proofs.FilesLemmas.{some_set, watched_same, watched_set}
 use Rattle.std.specs.Int.Bits.{or_zero_r}
 use Rattle.std.specs.List.{list_any}
 use Rattle.std.proofs.lemmas.Option.{none-some}
+use Rattle.ep_facts.proofs.NatFacts.{from_test, same_nat, same_or_not, same_test, test_apart}
+use Rattle.ep_facts.proofs.BoolFacts.{or_left, or_right, same_bools}
 use Rattle.ep_base.specs.declared.object.Raised.{Raised}
 use Rattle.ep_machine.specs.Bits.{at_end, when}
 use Rattle.ep_machine.specs.Spread.{raised_of}
 use Rattle.ep_view.proofs.FreshLemmas.{deaths_raise, raised_live, raised_parts}
-use Rattle.ep_law.proofs.TestLemmas.{from_test, or_left, or_right, same_nat, same_test}
 
 -- What is left once the descriptions that nothing names are dead.
 
@@ -147,10 +148,6 @@ raised_across f xs p = when (loses p.object xs) (at_end (close_end (content_at f
 some_place : (p q : Place) → Some p ≡ Some q → p ≡ q
 some_place p q h = ap (λ (o : Option Place). unwrap_or o p) h
 
-or_false : (a b : Bool) → (a || b) ≡ false → (a ≡ false) × (b ≡ false)
-or_false true b h = cc
-or_false false b h = (refl, h)
-
 -- what lives on was not among the dead, and had its place
 module _ (f : Files) (xs : List (ℕ × Place)) (apart : are_distinct (numbers xs) ≡ true) (placed : ArePlaced f xs) (d : ℕ) (p : Place) (here : place_of (after_all f xs) d ≡ Some p) where
   chosen : (if is_among (numbers xs) d then None else place_of f d) ≡ Some p
@@ -198,8 +195,8 @@ module _ (f : Files) (x : ℕ × Place) (d : ℕ) (p : Place) (is : place_of f x
   nobody : (ys : List (ℕ × Place)) → ArePlaced f ys → is_among (numbers ys) x.0 ≡ false → is_among (numbers ys) d ≡ false → loses p.object ys ≡ false
   nobody [] placed not_x not_d = refl
   nobody (y ∷ ys) placed not_x not_d =
-      let a = or_false (x.0 == y.0) (is_among (numbers ys) x.0) not_x in
-      let b = or_false (d == y.0) (is_among (numbers ys) d) not_d in
+      let a = or_parts (x.0 == y.0) (is_among (numbers ys) x.0) not_x in
+      let b = or_parts (d == y.0) (is_among (numbers ys) d) not_d in
       let rest = nobody ys placed.1 a.1 b.1 in
       elim (cases_Bool (y.1.object == p.object)) [
         | inr other ↦ λ i. other i || rest i
@@ -231,7 +228,7 @@ survivor_raised f (x ∷ xs) apart placed h d p here =
     let placed_later = still_placed f x xs left.0 placed.1 in
     let there : place_of g d ≡ Some p = lived g xs left.1 placed_later d p later in
     let lives : place_of f d ≡ Some p = was_there f.descriptions x.0 d p there in
-    let none = or_false (d == x.0) (is_among (numbers xs) d) (lives_on f (x ∷ xs) apart placed d p here) in
+    let none = or_parts (d == x.0) (is_among (numbers xs) d) (lives_on f (x ∷ xs) apart placed d p here) in
     let ne : d ≢ x.0 = λ e. false≢true (sym none.0 ∙ same_test d x.0 e) in
     let one : raised_of more d ≡ when (p.object == k) (at_end r p.side) =
     raised_live (λ q. q.object == k) (λ q. at_end r q.side) rest d ∙ ap (raised_at_place k r) there in
@@ -250,8 +247,8 @@ survivor_raised f (x ∷ xs) apart placed h d p here =
           ∙ ((λ i. at_end (close_end (content_at f (sym same i)) (side i)).1 p.side)
           ∙ ap (λ (c : Bool). when (c || loses p.object xs) (at_end (close_end (content_at f p.object) (across_from p.side)).1 p.side)) (sym b))))
       | inr other ↦
-          let a : (p.object == k) ≡ false = differs p.object k other in
-          let b : (k == p.object) ≡ false = differs k p.object (λ e. other (sym e)) in
+          let a : (p.object == k) ≡ false = test_apart p.object k other in
+          let b : (k == p.object) ≡ false = test_apart k p.object (λ e. other (sym e)) in
           let content : content_at g p.object ≡ content_at f p.object = ap (λ (o : Option Object). unwrap_or o plain) (get_other f.objects k p.object (kept_object rest k (close_end (content_at f k) x.1.side).0) (λ e. other (sym e))) in
           parts
           ∙ (ap (λ (c : Bool). bit_or (when c (at_end r p.side)) (raised_across g xs p)) a
@@ -287,11 +284,6 @@ loses_by f k n q (y ∷ ys) placed among is at = elim (cases_Bool (n == y.0)) [
       or_left (y.1.object == k) (loses k ys) (ap (λ (z : Place). z.object == k) same ∙ at)
   | inr e ↦ or_right (y.1.object == k) (loses k ys) (loses_by f k n q ys placed.1 (ap (λ (b : Bool). b || is_among (numbers ys) n) (sym e) ∙ among) is at)
 ]
-
-same_bools : (a b : Bool) → (a ≡ true → b ≡ true) → (b ≡ true → a ≡ true) → a ≡ b
-same_bools true b f g = sym (f refl)
-same_bools false true f g = g refl
-same_bools false false f g = refl
 
 module _ (f : Files) (xs ys : List (ℕ × Place)) (x_apart : are_distinct (numbers xs) ≡ true) (y_apart : are_distinct (numbers ys) ≡ true) (x_placed : ArePlaced f xs) (y_placed : ArePlaced f ys) (h : Apart f)
     (same : (d : ℕ) → is_among (numbers xs) d ≡ is_among (numbers ys) d) where

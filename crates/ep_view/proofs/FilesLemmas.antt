@@ -3,6 +3,9 @@ use Rattle.std.proofs.Common.{nat_lt, ◌<◌, ◌≡◌, ◌≢◌, ℕ, zero, 
 use Rattle.std.specs.List.{filter_map}
 use Rattle.std.proofs.lemmas.Bool.{false≢true}
 use Rattle.std.proofs.lemmas.Bool.Decides.{nat_tests}
+use Rattle.ep_facts.proofs.NatFacts.{from_test, same_nat, same_or_not, suc_is_not_zero}
+use Rattle.ep_facts.proofs.BoolFacts.{or_cases, or_left, or_right}
+use Rattle.ep_facts.proofs.AmongFacts.{among_append}
 use Rattle.ep_base.specs.declared.object.End.{End}
 use Rattle.ep_machine.specs.Deaths.{named_in, named_in_tables}
 use Rattle.ep_machine.specs.Files.{Files, Place, Slot, Table, description_in, is_live, named_by, names_nothing, numbers_of, object_at, object_of, opening_files, place_of, slot_under, table_of, with_object}
@@ -11,8 +14,6 @@ use Rattle.ep_machine.specs.Objects.{Object}
 use Rattle.ep_view.specs.AtRest.{can_be_watched, is_backed, kind_of}
 use Rattle.ep_machine.specs.State.{Waiter}
 use Rattle.ep_machine.specs.Tables.{close, create_one, create_two, describe, dup, dup2, exec, exit, fork, kept_by_exec, new_object, same_number, slot, with_table}
-use Rattle.ep_law.proofs.DeathLemmas.{same_or_not}
-use Rattle.ep_law.proofs.TestLemmas.{from_test, or_left, or_right, same_nat}
 
 -- the part of a changed state that is about its files
 pub record Filed (f : Files) : Type 0 where
@@ -42,9 +43,6 @@ or_assoc true b c = refl
 or_assoc false b c = refl
 
 -- Names in tables.
-pub among_append : (xs ys : List ℕ) (d : ℕ) → is_among (xs ++ ys) d ≡ (is_among xs d || is_among ys d)
-among_append [] ys d = refl
-among_append (x ∷ xs) ys d = ap (λ (b : Bool). (d == x) || b) (among_append xs ys d) ∙ sym (or_assoc (d == x) (is_among xs d) (is_among ys d))
 
 among_enter : (t : Table) (x : Slot) (d : ℕ) → is_among (filter_map description_in (enter t x)) d ≡ (is_among (filter_map description_in t) d || (d == x.description))
 among_enter [] x d = or_comm (d == x.description) false
@@ -128,14 +126,9 @@ watched_lives : (f : Files) (p : Option Place) → can_be_watched (object_at f p
 watched_lives f None h = cc
 watched_lives f (Some p) h = refl
 
--- the first or the second
-or_case : (a b : Bool) → (a || b) ≡ true → (a ≡ true) ⊎ (b ≡ true)
-or_case true b h = inl refl
-or_case false b h = inr h
-
 -- what is named in one of two lists
 pub among_either : (xs ys : List ℕ) (d : ℕ) → is_among (xs ++ ys) d ≡ true → (is_among xs d ≡ true) ⊎ (is_among ys d ≡ true)
-among_either xs ys d h = or_case (is_among xs d) (is_among ys d) (sym (among_append xs ys d) ∙ h)
+among_either xs ys d h = or_cases (is_among xs d) (is_among ys d) (sym (among_append xs ys d) ∙ h)
 
 pub among_first : (xs ys : List ℕ) (d : ℕ) → is_among xs d ≡ true → is_among (xs ++ ys) d ≡ true
 among_first xs ys d h = among_append xs ys d ∙ or_left (is_among xs d) (is_among ys d) h
@@ -191,7 +184,7 @@ filed_describe f p k e cloexec there object h =
         | inl same ↦ subst (λ (m : ℕ). is_backed f (get_or (f.descriptions ++ Some place ∷ []) m None) ≡ true) (sym same) (ap (is_backed f) (some_push f.descriptions place) ∙ object)
         | inr other ↦ ap (is_backed f) (push_other f.descriptions (Some place) d other) ∙ h.placed d
       ];
-      lives = λ d named. elim (or_case _ _ (sym (among_set f.tables p (slot n cloexec) d there) ∙ named)) [
+      lives = λ d named. elim (or_cases _ _ (sym (among_set f.tables p (slot n cloexec) d there) ∙ named)) [
         | inl before ↦ ap is_some (some_append f.descriptions (Some place ∷ []) d (h.lives d before)) ∙ h.lives d before
         | inr new ↦ subst (λ (m : ℕ). is_live (describe f p k e cloexec) m ≡ true) (sym (from_test d n new)) here
       ];
@@ -240,7 +233,7 @@ in_others : (t : Option Table) (ts : List (Option Table)) (d : ℕ) → is_among
 in_others t ts d h = among_append (named_in t) (named_in_tables ts) d ∙ or_right (is_among (named_in t) d) (is_among (named_in_tables ts) d) h
 
 in_either : (t : Option Table) (ts : List (Option Table)) (d : ℕ) → is_among (named_in_tables (t ∷ ts)) d ≡ true → (is_among (named_in t) d ≡ true) ⊎ (is_among (named_in_tables ts) d ≡ true)
-in_either t ts d h = or_case (is_among (named_in t) d) (is_among (named_in_tables ts) d) (sym (among_append (named_in t) (named_in_tables ts) d) ∙ h)
+in_either t ts d h = or_cases (is_among (named_in t) d) (is_among (named_in_tables ts) d) (sym (among_append (named_in t) (named_in_tables ts) d) ∙ h)
 
 among_set_any : (ts : List (Option Table)) (p : ℕ) (u : Option Table) (d : ℕ) → is_among (named_in_tables (set ts p u)) d ≡ true → (is_among (named_in_tables ts) d ≡ true) ⊎ (is_among (named_in u) d ≡ true)
 among_set_any [] p u d h = inl h
@@ -268,18 +261,18 @@ numbers_live f p h d e = h.lives d (in_numbers f.tables p d e)
 
 -- What the tables of each call name.
 pub among_entered : (t : Table) (x : Slot) (d : ℕ) → is_among (filter_map description_in (enter t x)) d ≡ true → (is_among (filter_map description_in t) d ≡ true) ⊎ (d ≡ x.description)
-among_entered t x d h = elim (or_case _ _ (sym (among_enter t x d) ∙ h)) [ inl old ↦ inl old | inr new ↦ inr (from_test d x.description new) ]
+among_entered t x d h = elim (or_cases _ _ (sym (among_enter t x d) ∙ h)) [ inl old ↦ inl old | inr new ↦ inr (from_test d x.description new) ]
 
 among_more : (y : Option Slot) (ys : Table) (d : ℕ) → is_among (filter_map description_in ys) d ≡ true → is_among (filter_map description_in (y ∷ ys)) d ≡ true
 among_more None ys d h = h
 among_more (Some z) ys d h = or_right _ _ h
 
 pub among_placed : (t : Table) (k : ℕ) (x : Slot) (d : ℕ) → is_among (filter_map description_in (place_at t k x)) d ≡ true → (is_among (filter_map description_in t) d ≡ true) ⊎ (d ≡ x.description)
-among_placed [] zero x d h = elim (or_case (d == x.description) false h) [ inl new ↦ inr (from_test d x.description new) | inr none ↦ absurd (false≢true none) ]
+among_placed [] zero x d h = elim (or_cases (d == x.description) false h) [ inl new ↦ inr (from_test d x.description new) | inr none ↦ absurd (false≢true none) ]
 among_placed [] (suc k) x d h = among_placed [] k x d h
-among_placed (y ∷ ys) zero x d h = elim (or_case (d == x.description) (is_among (filter_map description_in ys) d) h) [ inl new ↦ inr (from_test d x.description new) | inr old ↦ inl (among_more y ys d old) ]
+among_placed (y ∷ ys) zero x d h = elim (or_cases (d == x.description) (is_among (filter_map description_in ys) d) h) [ inl new ↦ inr (from_test d x.description new) | inr old ↦ inl (among_more y ys d old) ]
 among_placed (None ∷ ys) (suc k) x d h = among_placed ys k x d h
-among_placed (Some z ∷ ys) (suc k) x d h = elim (or_case (d == z.description) (is_among (filter_map description_in (place_at ys k x)) d) h) [
+among_placed (Some z ∷ ys) (suc k) x d h = elim (or_cases (d == z.description) (is_among (filter_map description_in (place_at ys k x)) d) h) [
   | inl first ↦ inl (or_left _ _ first)
   | inr rest ↦ elim (among_placed ys k x d rest) [ inl old ↦ inl (or_right _ _ old) | inr new ↦ inr new ]
 ]
@@ -288,7 +281,7 @@ pub among_unset : (t : Table) (k d : ℕ) → is_among (filter_map description_i
 among_unset [] k d h = h
 among_unset (y ∷ ys) zero d h = among_more y ys d h
 among_unset (None ∷ ys) (suc k) d h = among_unset ys k d h
-among_unset (Some z ∷ ys) (suc k) d h = elim (or_case (d == z.description) (is_among (filter_map description_in (set ys k None)) d) h) [ inl first ↦ or_left _ _ first | inr rest ↦ or_right _ _ (among_unset ys k d rest) ]
+among_unset (Some z ∷ ys) (suc k) d h = elim (or_cases (d == z.description) (is_among (filter_map description_in (set ys k None)) d) h) [ inl first ↦ or_left _ _ first | inr rest ↦ or_right _ _ (among_unset ys k d rest) ]
 
 pub among_kept : (t : Table) (d : ℕ) → is_among (filter_map description_in (map kept_by_exec t)) d ≡ true → is_among (filter_map description_in t) d ≡ true
 among_kept [] d h = h
@@ -297,7 +290,7 @@ among_kept (Some z ∷ ys) d h = of_flag z.cloexec (λ e. among_kept ys d e) h w
   of_flag : (b : Bool) → (is_among (filter_map description_in (map kept_by_exec ys)) d ≡ true → is_among (filter_map description_in ys) d ≡ true)
       → is_among (filter_map description_in ((if b then None else Some z) ∷ map kept_by_exec ys)) d ≡ true → is_among (filter_map description_in (Some z ∷ ys)) d ≡ true
   of_flag true rest e = among_more (Some z) ys d (rest e)
-  of_flag false rest e = elim (or_case (d == z.description) (is_among (filter_map description_in (map kept_by_exec ys)) d) e) [
+  of_flag false rest e = elim (or_cases (d == z.description) (is_among (filter_map description_in (map kept_by_exec ys)) d) e) [
     | inl first ↦ or_left (d == z.description) (is_among (filter_map description_in ys) d) first
     | inr more ↦ among_more (Some z) ys d (rest more)
   ]
@@ -363,9 +356,7 @@ same_thrice false = refl
 
 only_zero : (d : ℕ) → (d == 0) ≡ is_live opening_files d
 only_zero zero = refl
-only_zero (suc d) = no_zero d where
-  no_zero : (n : ℕ) → (suc n == 0) ≡ false
-  no_zero n = grind (arith, nat_tests)
+only_zero (suc d) = suc_is_not_zero d
 
 pub named_opening : (d : ℕ) → is_among (named_in_tables opening_files.tables) d ≡ is_live opening_files d
 named_opening d = same_thrice (d == 0) ∙ only_zero d

@@ -14,26 +14,20 @@ use Rattle.std.specs.Int.{bit_at}
 use Rattle.std.specs.Int.Bits.{or_zero_r}
 use Rattle.std.proofs.lemmas.Nat.{le_or_l, le_or_r}
 use Rattle.std.proofs.lemmas.Nat.Bits.{bit_at_and, bit_at_or, same_from_bits}
+use Rattle.std.proofs.Math.Bool.{or-false, or-true}
+use Rattle.std.proofs.Math.Nat.{add-zero, add-zero as here, zero-add, zero-add as from_zero}
+use Rattle.ep_facts.proofs.BoolFacts.{both_true, same_bools}
+use Rattle.ep_facts.proofs.NatFacts.{above_test, from_test, positive, same_nat, shift as next, zero_test}
 use Rattle.ep_machine.specs.Deaths.{die, die_all}
 use Rattle.ep_machine.specs.Lists.{numbered}
 use Rattle.ep_view.specs.KernelView.{KernelWatch, freshened, stays_in, stirred}
 
 -- When a registration is fresh after the settling of a change.
 
-or_true : (b : Bool) → (b || true) ≡ true
-or_true true = refl
-or_true false = refl
-
-or_false : (b : Bool) → (b || false) ≡ b
-or_false true = refl
-or_false false = refl
-
 -- one more arrival is above what was seen
 one_more : (old now : ℕ) (b : Bool) → old ≤ now → nat_lt old (now + when b 1) ≡ (nat_lt old now || b)
-one_more old now true le = (grind (arith, nat_tests, le)) ∙ sym (or_true (nat_lt old now))
-one_more old now false le = ap (nat_lt old) (plus_zero now) ∙ sym (or_false (nat_lt old now)) where
-  plus_zero : (k : ℕ) → k + 0 ≡ k
-  plus_zero k = omega arith
+one_more old now true le = (grind (arith, nat_tests, le)) ∙ sym (or-true (nat_lt old now))
+one_more old now false le = ap (nat_lt old) (add-zero now) ∙ sym (or-false (nat_lt old now))
 
 -- tests of several bits, each of what is over and of what is new
 apart_one : (p l b : Bool) → (p && (l || b)) ≡ (p && l || p && b)
@@ -42,7 +36,7 @@ apart_one true l b = refl
 
 apart_next : (x y p l b : Bool) → ((x || y) || p && (l || b)) ≡ ((x || p && l) || (y || p && b))
 apart_next true y p l b = refl
-apart_next false true p l b = sym (or_true (p && l))
+apart_next false true p l b = sym (or-true (p && l))
 apart_next false false p l b = apart_one p l b
 
 arrived_counted : (wanted bits : ℕ) (old now : Counts) → IsPast old now → arrived_since wanted old (counted bits now) ≡ (arrived_since wanted old now || holds_wanted wanted bits)
@@ -86,15 +80,8 @@ past_itself c = record { of_in = omega arith; of_out = omega arith; of_err = ome
 -- The counts of a live description after arrivals.
 counts_at : (s : State) (raised : List (ℕ × ℕ)) (k i : ℕ) (ps : List (Option Place)) → is_some (get_or ps i None) ≡ true → get_or (counts_from s raised k ps) i no_counts ≡ counted (spread s raised (k + i)) (counts_of s (k + i))
 counts_at s raised k i [] h = absurd (false≢true h)
-counts_at s raised k zero (p ∷ ps) h = ap (λ (d : ℕ). counted (spread s raised d) (counts_of s d)) (sym (plus_zero k)) where
-  plus_zero : (j : ℕ) → j + 0 ≡ j
-  plus_zero j = omega arith
-counts_at s raised k (suc i) (p ∷ ps) h = counts_at s raised (k + 1) i ps h ∙ ap (λ (d : ℕ). counted (spread s raised d) (counts_of s d)) (next k i) where
-  next : (a b : ℕ) → a + 1 + b ≡ a + suc b
-  next a b = omega arith
-
-same_number : (a b : ℕ) → (a == b) ≡ true → a ≡ b
-same_number a b h = grind (arith, nat_tests, h)
+counts_at s raised k zero (p ∷ ps) h = ap (λ (d : ℕ). counted (spread s raised d) (counts_of s d)) (sym (add-zero k))
+counts_at s raised k (suc i) (p ∷ ps) h = counts_at s raised (k + 1) i ps h ∙ ap (λ (d : ℕ). counted (spread s raised d) (counts_of s d)) (next k i)
 
 -- what is raised at dead descriptions is raised at no live one
 pub alive_raised : (f : Files) (raised : List (ℕ × ℕ)) (d : ℕ) → is_live f d ≡ true → raised_of (filter (λ r. is_live f r.0) raised) d ≡ raised_of raised d
@@ -109,7 +96,7 @@ alive_raised f (r ∷ rest) d h =
     ] where
       apart_from : is_live f r.0 ≡ false → (r.0 == d) ≡ false
       apart_from dead = elim (cases_Bool (r.0 == d)) [
-        | inl e ↦ absurd (false≢true (sym dead ∙ (ap (is_live f) (same_number r.0 d e) ∙ h)))
+        | inl e ↦ absurd (false≢true (sym dead ∙ (ap (is_live f) (from_test r.0 d e) ∙ h)))
         | inr e ↦ e
       ]
 
@@ -120,10 +107,7 @@ module _ (s : State) (raised : List (ℕ × ℕ)) (d : ℕ) (lives : is_live s.f
   counts_arrived : counts_of (arrived s raised) d ≡ counted bits (counts_of s d)
   counts_arrived =
       let live = raised_alive s raised in
-      counts_at s live 0 d s.files.descriptions lives ∙ ap (λ (k : ℕ). counted (spread s live k) (counts_of s k)) (zero_plus d)
-    where
-      zero_plus : (k : ℕ) → 0 + k ≡ k
-      zero_plus k = omega arith
+      counts_at s live 0 d s.files.descriptions lives ∙ ap (λ (k : ℕ). counted (spread s live k) (counts_of s k)) (zero-add d)
 
   -- a registration on it is fresh where it was, or where something that it asks for arrives
   pub fresh_arrived : (x : Watch) → x.target ≡ d → HasSeen x.seen (counts_of s x.target) → is_fresh (arrived s raised) x ≡ (is_fresh s x || brings x.mask (spread s (raised_alive s raised) x.target))
@@ -154,20 +138,8 @@ and_or a b k =
     ∙ (max_min (bit_at a i) (bit_at b i) (bit_at k i)
     ∙ sym (bit_at_or (bit_and a k) (bit_and b k) i ∙ (λ j. max (bit_at_and a k i j) (bit_at_and b k i j))))))
 
-zero_test : (n : ℕ) → (n == 0) ≡ true → n ≡ 0
-zero_test n h = grind (arith, nat_tests, h)
-
 is_zero_test : (n : ℕ) → n ≡ 0 → (n == 0) ≡ true
 is_zero_test n h = grind (arith, nat_tests, h)
-
-same_bools : (a b : Bool) → (a ≡ true → b ≡ true) → (b ≡ true → a ≡ true) → a ≡ b
-same_bools true b f g = sym (f refl)
-same_bools false true f g = g refl
-same_bools false false f g = refl
-
-both_zero : (a b : Bool) → (a && b) ≡ true → (a ≡ true) × (b ≡ true)
-both_zero true b h = (refl, h)
-both_zero false b h = cc
 
 or_is_zero : (a b : ℕ) → (bit_or a b == 0) ≡ ((a == 0) && (b == 0))
 or_is_zero a b =
@@ -176,7 +148,7 @@ or_is_zero a b =
     let none = zero_test (bit_or a b) h in
     let l = le_or_l a b in
     let r = le_or_r a b in λ i. is_zero_test a (omega (arith, none, l)) i && is_zero_test b (omega (arith, none, r)) i)
-    (λ h. let both = both_zero (a == 0) (b == 0) h in is_zero_test (bit_or a b) (λ i. bit_or (zero_test a both.0 i) (zero_test b both.1 i)))
+    (λ h. let both = both_true (a == 0) (b == 0) h in is_zero_test (bit_or a b) (λ i. bit_or (zero_test a both.0 i) (zero_test b both.1 i)))
 
 not_and : (a b : Bool) → not (a && b) ≡ (not a || not b)
 not_and true b = refl
@@ -240,9 +212,6 @@ joined n false b true true x = refl
 joined n false b true false x = refl
 joined n false b false q x = refl
 
-positive : (n : ℕ) → nat_lt 0 n ≡ not (n == 0)
-positive n = grind (arith, nat_tests)
-
 -- some bit that is asked for is among those of a union
 pub asked_either : (mask a b : ℕ) → nat_lt 0 (asked mask (bit_or a b)) ≡ (nat_lt 0 (asked mask a) || nat_lt 0 (asked mask b))
 asked_either mask a b =
@@ -299,9 +268,6 @@ module _ (chosen : Place → Bool) (bits : Place → ℕ) where
   raised_place None = 0
   raised_place (Some p) = when (chosen p) (bits p)
 
-  apart : (a b : ℕ) → a < b → (b == a) ≡ false
-  apart a b lt = grind (arith, nat_tests, lt)
-
   -- nothing is raised at a number below the first
   below : (k d : ℕ) (ds : List (Option Place)) → d < k → raised_of (at_places k ds) d ≡ 0
   below k d [] lt = refl
@@ -309,18 +275,9 @@ module _ (chosen : Place → Bool) (bits : Place → ℕ) where
   below k d (Some p ∷ ds) lt =
       let rest = below (k + 1) d ds (omega (arith, lt)) in
       elim (chosen p) as (λ b. raised_of (map (λ x. (x.0, bits x.1)) (cond b ((k, p) ∷ filter (λ x. chosen x.1) (numbered (k + 1) ds)) (filter (λ x. chosen x.1) (numbered (k + 1) ds)))) d ≡ 0) [
-        | true ↦ ap (λ (c : Bool). bit_or (when c (bits p)) (raised_of (at_places (k + 1) ds) d)) (apart d k lt) ∙ rest
+        | true ↦ ap (λ (c : Bool). bit_or (when c (bits p)) (raised_of (at_places (k + 1) ds) d)) (above_test d k lt) ∙ rest
         | false ↦ rest
       ]
-
-  here : (k : ℕ) → k + 0 ≡ k
-  here k = omega arith
-
-  next : (k j : ℕ) → k + 1 + j ≡ k + suc j
-  next k j = omega arith
-
-  same_nat : (k : ℕ) → (k == k) ≡ true
-  same_nat k = grind (arith, nat_tests)
 
   raised_from : (k j : ℕ) (ds : List (Option Place)) → raised_of (at_places k ds) (k + j) ≡ raised_place (get_or ds j None)
   raised_from k j [] = refl
@@ -341,9 +298,6 @@ module _ (chosen : Place → Bool) (bits : Place → ℕ) where
       ] where
         other : (a b : ℕ) → (a == a + suc b) ≡ false
         other a b = grind (arith, nat_tests)
-
-  from_zero : (d : ℕ) → 0 + d ≡ d
-  from_zero d = omega arith
 
   pub raised_live : (f : Files) (d : ℕ) → raised_of (map (λ x. (x.0, bits x.1)) (filter (λ x. chosen x.1) (live f))) d ≡ raised_place (get_or f.descriptions d None)
   raised_live f d = ap (raised_of (at_places 0 f.descriptions)) (sym (from_zero d)) ∙ raised_from 0 d f.descriptions

@@ -2,6 +2,8 @@
 use Rattle.std.proofs.Common.{◌≡◌, ℕ, zero, suc, ◌==◌, ◌&&◌, ◌||◌, ◌∙◌, Bool, true, false, List, [], ◌∷◌, Some, ap, bit_or, cond, filter, inl, inr, map, nat_lt, not, refl, sym}
 use Rattle.std.specs.List.{find, list_any}
 use Rattle.std.proofs.lemmas.Bool.{false≢true}
+use Rattle.std.proofs.Math.Bool.{and-false}
+use Rattle.ep_facts.proofs.NatFacts.{from_test}
 use Rattle.ep_machine.specs.Bits.{EXCLUSIVE, IN, asked, has_bit, when}
 use Rattle.ep_machine.specs.Exclusive.{finds_waiter, gets_mark, is_asked_at, is_guarded, is_guarded_within, is_left, is_spread_to, is_up_from, is_woken}
 use Rattle.ep_machine.specs.Files.{Files, object_of}
@@ -15,7 +17,6 @@ use Rattle.ep_law.specs.Laws.{Member, has_instance}
 use Rattle.ep_law.specs.Narrow.{IsRegular, is_chosen, is_number_of, narrowed}
 use Rattle.ep_law.proofs.ListLemmas.{any_same}
 use Rattle.ep_law.proofs.NarrowLemmas.{woken_is_narrowed}
-use Rattle.ep_law.proofs.TestLemmas.{from_test}
 use Rattle.ep_view.specs.KernelView.{KernelWatch, any_within, carries, climbed, climbing, kernel_watches, reached_now, reached_within, ready_now, resting, shows, watches_instance}
 use Rattle.ep_view.specs.Marking.{above_now, choice_at, finds_now, guarded_now, guards, has_number, is_awaited_by, is_candidate, keeps_passing, lets_up, narrowed_now, passing_if}
 use Rattle.ep_view.proofs.ClimbLemmas.{any_map, asked_when, passes, reaching_is, zero_asked}
@@ -200,10 +201,7 @@ module _ (n : ℕ) (raised : List (ℕ × ℕ)) where
             by false is_not =
                 let guard : is_exclusive x ≡ true = guard_if (is_exclusive x) _ (kept x z is ∙ is_not) in
                 let none : watches_instance s.files z ≡ false = ap (has_instance s.files) (sym is.target) ∙ regular.exclusive x m guard in
-                sym (ap (λ (b : Bool). z.instance == e && b) ((λ i. apart i || nothing z.armed (watches_instance s.files z) (q z.target) (nat_lt 0 (asked z.mask IN)) none i)) ∙ never (z.instance == e)) where
-                  never : (p : Bool) → (p && false) ≡ false
-                  never true = refl
-                  never false = refl
+                sym (ap (λ (b : Bool). z.instance == e && b) ((λ i. apart i || nothing z.armed (watches_instance s.files z) (q z.target) (nat_lt 0 (asked z.mask IN)) none i)) ∙ and-false (z.instance == e))
 
       few_within : (k : ℕ) (e : ℕ) → is_reached_within k few raised e ≡ reached_within k s.files n narrow e
       few_within zero e = refl

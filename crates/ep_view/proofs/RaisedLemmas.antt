@@ -3,6 +3,8 @@
 use Rattle.std.proofs.Common.{◌≡◌, ◌∙◌, ◌⊎◌, ◌<◌, ◌==◌, ℕ, zero, suc, Bool, true, false, List, [], ◌∷◌, None, Option, Some, ap, arith, get_or, inl, inr, is_some, length, refl, set, subst, sym, unwrap_or}
 use Rattle.std.specs.Int.{bit_at}
 use Rattle.std.proofs.lemmas.Bool.{false≢true}
+use Rattle.ep_facts.proofs.NatFacts.{from_test}
+use Rattle.ep_facts.proofs.BoolFacts.{same_bools}
 use Rattle.ep_base.specs.declared.object.End.{End}
 use Rattle.ep_base.specs.declared.object.End.TheVariants.{First, Second}
 use Rattle.ep_base.specs.declared.object.Raised.{Raised}
@@ -12,7 +14,6 @@ use Rattle.ep_law.specs.Laws.{has_instance}
 use Rattle.ep_law.proofs.NarrowLemmas.{has_in, in_has}
 use Rattle.ep_law.proofs.RaiseLemmas.{lived_before}
 use Rattle.ep_object.proofs.BitLemmas.{either_bit, first_bit, no_bit}
-use Rattle.ep_law.proofs.TestLemmas.{from_test}
 use Rattle.ep_machine.specs.Bits.{IN, at_end, has_bit, nothing, when}
 use Rattle.ep_machine.specs.Deaths.{buried, die, die_all, dying, kept_object}
 use Rattle.ep_machine.specs.Files.{Files, Place, is_live, object_at, object_of, place_of, raised_at}
@@ -102,14 +103,9 @@ raised_stays f raised (x ∷ xs) d i h =
     let more = raised_at (record f { descriptions = set f.descriptions x.0 None }) x.1.object (close_end (unwrap_or (get_or f.objects x.1.object None) plain) x.1.side).1 in
     raised_stays now.0 now.1 xs d i (ap (λ (n : ℕ). bit_at n i) (raised_parts raised more d) ∙ first_bit (raised_of raised d) (raised_of more d) i h)
 
-same_test : (a b : Bool) → (a ≡ true → b ≡ true) → (b ≡ true → a ≡ true) → a ≡ b
-same_test true b f g = sym (f refl)
-same_test false true f g = g refl
-same_test false false f g = refl
-
 -- so deaths raise no IN at an instance that is left
 pub raised_in_same : (f : Files) (raised : List (ℕ × ℕ)) (xs : List (ℕ × Place)) (d : ℕ) → AreMade f → has_instance (die_all (f, raised) xs).0 d ≡ true → has_bit (raised_of (die_all (f, raised) xs).1 d) IN ≡ has_bit (raised_of raised d) IN
-raised_in_same f raised xs d made here = same_test _ _
+raised_in_same f raised xs d made here = same_bools _ _
     (λ h. in_has (raised_of raised d) (raised_by_change f raised xs d 0 made here (has_in (raised_of (die_all (f, raised) xs).1 d) h)))
     (λ h. in_has (raised_of (die_all (f, raised) xs).1 d) (raised_stays f raised xs d 0 (has_in (raised_of raised d) h)))
 

@@ -22,21 +22,22 @@ use Rattle.ep_machine.specs.Waits.{marked_if_due}
 use Rattle.ep_view.proofs.DeathLemmas.{Buried, all_buried}
 use Rattle.ep_law.proofs.MarkLemmas.{marked_all, marked_parts, marks_stay, guarded_same, ready_same as law_ready_same}
 use Rattle.ep_law.proofs.NamedLivesLemmas.{live_left, dying_distinct, dying_placed, dying_unnamed, unnamed_dying}
-use Rattle.ep_law.proofs.DeathLemmas.{ArePlaced, after_all, differs, numbers, raised_before, same_or_not}
+use Rattle.ep_law.proofs.DeathLemmas.{ArePlaced, after_all, numbers, raised_before}
 use Rattle.ep_view.proofs.FilesLemmas.{among_second, among_waits, watched_same}
 use Rattle.ep_view.proofs.FreshLemmas.{fresh_arrived, seen_arrived, alive_raised}
 use Rattle.ep_view.proofs.ClimbLemmas.{kept_arrived, reached, zero_asked, zero_brings, noted_in}
 use Rattle.ep_view.proofs.KernelViewLemmas.{kept_filter, ready_kept}
-use Rattle.ep_law.proofs.TestLemmas.{both_true, same_nat}
 use Rattle.std.specs.List.{IsDistinct, list_any}
+use Rattle.std.proofs.Math.Bool.{and-false as never}
+use Rattle.ep_facts.proofs.NatFacts.{same_nat, same_or_not, test_apart}
+use Rattle.ep_facts.proofs.BoolFacts.{and_false_or, and_not_itself, and_or_more, both_true}
 use Rattle.ep_view.specs.Marking.{gets_mark_now, guarded_now, keeps_passing, left_now, narrowed_now, passing_if}
 use Rattle.ep_law.specs.Laws.{Member, has_instance}
 use Rattle.ep_law.specs.Narrow.{IsRegular}
 use Rattle.ep_view.proofs.KindLemmas.{is_instance_of_kind}
 use Rattle.ep_machine.specs.Objects.{Object, is_instance, plain}
 use Rattle.ep_machine.specs.Exclusive.{gets_mark, is_guarded, is_left, is_woken}
-use Rattle.ep_law.proofs.ListLemmas.{all_member}
-use Rattle.ep_law.proofs.ReachLemmas.{any_has}
+use Rattle.ep_law.proofs.ListLemmas.{all_member, any_has}
 use Rattle.ep_view.proofs.MarkingLemmas.{AreSeen, IsSeen, climbed_rests, due_member, first_same, gets_seen, guarded_rests, marks_same, ready_rests, guarded_seen, woken_seen}
 use Rattle.ep_view.proofs.RaisedLemmas.{raised_in_same}
 use Rattle.ep_law.proofs.InstanceLemmas.{AreMade}
@@ -111,11 +112,7 @@ module _ (after : State) (h : Changed after) where
       let is : kernel_watches t t.watches ≡ map resting zs = same.watches ∙ climbed_rests (reached_now t.files after.n ys) t.files ys in
       let stands : needs_mark t e ≡ (ready_now t.files t.now zs e && not (guarded_now zs e)) =
       ap (λ (xs : List KernelWatch). ready_now t.files t.now xs e && not (guarded_now xs e)) is ∙ (λ i. ready_rests t.files t.now zs e i && not (guarded_rests zs e i)) in
-      or_more (ready_now t.files t.now zs e) (not (guarded_now zs e)) _ (sym stands ∙ h) where
-        or_more : (r g x : Bool) → (r && g) ≡ true → (r && (g || x)) ≡ true
-        or_more true true x h = refl
-        or_more true false x h = cc
-        or_more false g x h = cc
+      and_or_more (ready_now t.files t.now zs e) (not (guarded_now zs e)) _ (sym stands ∙ h)
 
   pub quiet_settled : (waited : List Waiter) (raised : List (ℕ × ℕ)) (t : State) → Settles waited after raised t → AtRest t
   quiet_settled waited raised t same =
@@ -343,10 +340,7 @@ no_news wanted c =
       itself k = grind (arith, nat_tests)
 
       none : (p q r s t : Bool) → (p && false || q && false || r && false || s && false || t && false) ≡ false
-      none p q r s t = λ i. never p i || never q i || never r i || never s i || never t i where
-        never : (b : Bool) → (b && false) ≡ false
-        never true = refl
-        never false = refl
+      none p q r s t = λ i. never p i || never q i || never r i || never s i || never t i
 
 reported_one : (s : State) (ks : List ℕ) (x : Watch) → kernel_watch s (reported s ks x) ≡ kernel_reported s.n ks (kernel_watch s x)
 reported_one s ks x =
@@ -369,7 +363,7 @@ among_lives : (f : Files) (xs : List (ℕ × Place)) (d : ℕ) → ArePlaced f x
 among_lives f [] d p h = absurd (false≢true h)
 among_lives f (x ∷ xs) d p h = elim (same_or_not d x.0) [
   | inl e ↦ subst (λ (m : ℕ). is_live f m ≡ true) (sym e) (ap is_some p.0)
-  | inr ne ↦ among_lives f xs d p.1 (ap (λ (b : Bool). b || is_among (numbers xs) d) (sym (differs d x.0 ne)) ∙ h)
+  | inr ne ↦ among_lives f xs d p.1 (ap (λ (b : Bool). b || is_among (numbers xs) d) (sym (test_apart d x.0 ne)) ∙ h)
 ]
 
 module _ (s : State) where
@@ -392,12 +386,8 @@ none_among : (xs : List (ℕ × Place)) → ((d : ℕ) → is_among (numbers xs)
 none_among [] h = refl
 none_among (x ∷ xs) h = absurd (false≢true (sym (h x.0) ∙ ap (λ (b : Bool). b || is_among (numbers xs) x.0) (same_nat x.0)))
 
-not_itself : (b : Bool) → (b && not b) ≡ false
-not_itself true = refl
-not_itself false = refl
-
 none_dying : (s : State) → AtRest s → dying s ≡ []
-none_dying s h = none_among (dying s) (λ d. dying_test s d ∙ (ap (λ (b : Bool). is_live s.files d && not b) (h.named d) ∙ not_itself (is_live s.files d)))
+none_dying s h = none_among (dying s) (λ d. dying_test s d ∙ (ap (λ (b : Bool). is_live s.files d && not b) (h.named d) ∙ and_not_itself (is_live s.files d)))
 
 all_stay : (f : Files) (xs : List KernelWatch) → AreSteady f xs → filter (stays_in f) xs ≡ xs
 all_stay f [] h = refl
@@ -412,10 +402,6 @@ module _ (s : State) (counted : (0 == s.n) ≡ false) where
   unnoted : (xs : List KernelWatch) → map (freshened s.n []) xs ≡ xs
   unnoted [] = refl
   unnoted (x ∷ xs) = λ i. nothing_new x i ∷ unnoted xs i where
-    never : (p : Bool) → (p && false) ≡ false
-    never true = refl
-    never false = refl
-
     nothing_new : (y : KernelWatch) → freshened s.n [] y ≡ y
     nothing_new y = λ i. stirred s.n (zero_brings y.mask i) ((ap (λ (t : Bool). y.armed && t) (zero_asked y.mask) ∙ never y.armed) i) y
 
@@ -475,10 +461,7 @@ module _ (s : State) (counted : (0 == s.n) ≡ false) where
   here_still all (w ∷ ws) within e =
       let there : list_any (λ v. v.caller == w.caller) all ≡ true = any_has (λ v. v.caller == w.caller) all w (within w (inl refl)) (same_nat w.caller) in
       let rest = here_still all ws (λ v m. within v (inr m)) e in
-      (λ i. w.instance == e && not (there i) || rest i) ∙ never (w.instance == e) where
-        never : (p : Bool) → (p && false || false) ≡ false
-        never true = refl
-        never false = refl
+      (λ i. w.instance == e && not (there i) || rest i) ∙ and_false_or (w.instance == e)
 
   quiet_standing : AtRest s → standing s [] s.files ≡ kernel_watches s s.watches
   quiet_standing h =

@@ -8,11 +8,11 @@ use Rattle.ep_view.specs.KernelView.{at_number}
 use Rattle.ep_machine.specs.State.{Waiter}
 use Rattle.ep_machine.specs.Waits.{is_marked_at, marked_if_due, unmark, waits_at}
 use Rattle.ep_law.proofs.ListLemmas.{any_same, member_map}
-use Rattle.std.proofs.lemmas.Bool.{cases_Bool, false≢true}
+use Rattle.std.proofs.lemmas.Bool.{cases_Bool, false≢true, or_parts}
 use Rattle.std.proofs.lemmas.Bool.Decides.{nat_tests}
+use Rattle.ep_facts.proofs.BoolFacts.{or_right}
 use Rattle.ep_machine.specs.Lists.{is_among}
 use Rattle.ep_view.proofs.FilesLemmas.{among_either}
-use Rattle.ep_law.proofs.TestLemmas.{neither, or_right}
 
 -- Waiters whose instances stand under other numbers.
 
@@ -131,7 +131,7 @@ apart_push c (v ∷ ws) w e h = (h.0, apart_push c ws w e h.1)
 pub callers_push : (ws : List Waiter) (w : Waiter) → list_any (λ v. v.caller == w.caller) ws ≡ false → IsDistinct nat_eq (map (λ v. v.caller) ws) → IsDistinct nat_eq (map (λ v. v.caller) (ws ++ w ∷ []))
 unfolding IsDistinct
 callers_push [] w free h = (tt, tt)
-callers_push (v ∷ ws) w free h = let r = neither (v.caller == w.caller) (list_any (λ u. u.caller == w.caller) ws) free in (apart_push v.caller ws w r.0 h.0, callers_push ws w r.1 h.1)
+callers_push (v ∷ ws) w free h = let r = or_parts (v.caller == w.caller) (list_any (λ u. u.caller == w.caller) ws) free in (apart_push v.caller ws w r.0 h.0, callers_push ws w r.1 h.1)
 
 pub instance_push : (ws : List Waiter) (w : Waiter) (d : ℕ) → is_among (map (λ v. v.instance) (ws ++ w ∷ [])) d ≡ true → (is_among (map (λ v. v.instance) ws) d ≡ true) ⊎ (d ≡ w.instance)
 instance_push [] w d h = elim (among_either (w.instance ∷ []) [] d h) [ inl e ↦ inr (from_test d w.instance e) | inr none ↦ absurd (false≢true none) ] where

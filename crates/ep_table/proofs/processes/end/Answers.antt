@@ -1,6 +1,6 @@
 use Rattle.std.proofs.Common.{None}
+use Rattle.ep_facts.proofs.ListFacts.{map_set}
 use Rattle.ep_table.specs.Processes.{items_of}
-use Rattle.ep_table.proofs.ViewLemmas.{map_set}
 use Rattle.ep_table.proofs.processes.end.Goals as goal
 
 pub returns-then-at-len : goal.returns-then-at-len

@@ -1,4 +1,4 @@
-use Rattle.std.proofs.Common.{◌≡◌, ◌≤◌, ◌+◌, ℕ, true, List, Option, [], ◌∷◌, ◌++◌, false, cond, None, Some, ap, count_by, get_or, is_some, length, refl, sym, subst, vec_capacity, ◌∙◌, arith}
+use Rattle.std.proofs.Common.{◌≡◌, ◌≤◌, ◌+◌, List, Option, [], ◌∷◌, ◌++◌, false, cond, None, Some, ap, count_by, get_or, is_some, length, refl, sym, subst, vec_capacity, ◌∙◌, arith}
 use Rattle.std.specs.HashMap as hash
 use Rattle.std.specs.List.{list_any}
 use Rattle.std.specs.Map.{lookup}
@@ -7,11 +7,9 @@ use Rattle.ep_interest.specs.ByNumber.{NumberedBy, in_order}
 use Rattle.ep_interest.specs.Passes.{passes_on}
 use Rattle.ep_interest.specs.Rows.{row}
 use Rattle.ep_interest.specs.Registrations.{GainsKey, Registrations, entry_of, has_key}
-use Rattle.ep_interest.specs.Touched.{is_noted}
 use Rattle.ep_interest.specs.View.{HasRows, IsIndex, IsInterest, instance_of, target_of, key_of, registrations, same_key}
 use Rattle.ep_interest.specs.declared.entry.Entry.{Entry}
 use Rattle.ep_interest.specs.declared.rows.Rows.{Rows}
-use Rattle.ep_interest.specs.declared.touched.Touched.{Touched}
 use Rattle.ep_interest.proofs.AddLemmas.{Inserted, entries_more, inserted, key_more, keys_more, numbers_more, on_ok}
 use Rattle.ep_interest.proofs.IndexLemmas.{index_same}
 use Rattle.ep_interest.proofs.KeyLemmas.{find_none}
@@ -20,7 +18,6 @@ use Rattle.ep_interest.proofs.PassesLemmas.{passing_more, passing_same}
 use Rattle.ep_interest.proofs.RowLemmas.{joined_there}
 use Rattle.ep_interest.proofs.GuardsLemmas.{count_but, one as one_of}
 use Rattle.ep_interest.specs.Exclusive.{is_exclusive, is_exclusive_slot}
-use Rattle.ep_interest.proofs.TouchedLemmas.{touched_kept, touched_more}
 use Rattle.ep_interest.proofs.interest.Interest.add.Given.{Over}
 use Rattle.ep_interest.proofs.interest.Interest.add.Goals as goal
 use Rattle.ep_interest.proofs.interest.Interest.add.Goals.{After-vacant_key}
@@ -90,7 +87,6 @@ invariant_of-self-2 g c =
       by_target = rows_more k.slots.slots c.insert_reserved.new.self.slots c.vacant_key.result (one g c) s k.added refl c.self.invariant.numbered target_of k.by_target c.reserve-5.new.self c.push-2.new.self c.self.invariant.by_target c.reserve-5.ensures.kept c.push-2.ensures.sound c.in-Ok.ensures.rows;
       passing = passing_more k.slots.slots c.insert_reserved.new.self.slots k.passes.keys.items c.reserve-3.new.self.keys.items c.reserve-3.ensures.keys c.vacant_key.result (one g c) s.was s.here refl s.others c.self.invariant.passing;
       room = omega (arith, c.capacity-room.ensures.slots, c.capacity-room.ensures.value, c.insert_reserved.ensures.capacity, c.capacity-many.ensures.value, c.in_ok-reserve-3.ensures.room);
-      touched = touched_more k.slots.slots c.insert_reserved.new.self.slots c.vacant_key.result (one g c) s k.touched.numbers.keys c.note-2.new.self.numbers.keys (λ n h. c.note-2.ensures.kept n (c.note.ensures.kept n h)) (c.note-2.ensures.kept c.args.addition.instance.0 c.in_ok-note.ensures.noted) c.in_ok-note-2.ensures.noted c.self.invariant.touched;
       guards = guards_added g c s;
     }
 
@@ -99,7 +95,7 @@ returns-clause-entries g c = subst (λ (r : Registrations). in_order c.insert_re
     (entries_more c.self.inside.slots.slots c.insert_reserved.new.self.slots c.vacant_key.result (one g c) (in_slots g c) c.self.inside.added refl c.self.invariant.numbered)
 
 pub returns-clause-keys : goal.returns-clause-keys
-returns-clause-keys g c = subst (λ (r : Registrations). GainsKey r (registrations {A = g.row.A.Denot} (record { slots = c.insert_reserved.new.self; by_key = c.insert.new.self; by_instance = c.push.new.self; by_target = c.push-2.new.self; passes = c.reserve-3.new.self; touched = c.note-2.new.self; guards = c.with_one-self-inside.result; added = c.self.inside.added + 1 })) (record { 0 = c.vacant_key.result }) (r.added + 1)) c.self.view_is
+returns-clause-keys g c = subst (λ (r : Registrations). GainsKey r (registrations {A = g.row.A.Denot} (record { slots = c.insert_reserved.new.self; by_key = c.insert.new.self; by_instance = c.push.new.self; by_target = c.push-2.new.self; passes = c.reserve-3.new.self; guards = c.with_one-self-inside.result; added = c.self.inside.added + 1 })) (record { 0 = c.vacant_key.result }) (r.added + 1)) c.self.view_is
     (keys_more c.self.inside.slots.slots c.insert_reserved.new.self.slots c.vacant_key.result (one g c) (in_slots g c) c.self.inside.added refl c.self.invariant.numbered c.self.inside.slots.vacant_key c.insert_reserved.new.self.vacant_key)
 
 pub push-requires-clause-linked : goal.push-requires-clause-linked
@@ -111,13 +107,12 @@ push-requires-2-clause-linked g c = omega (arith, c.in_ok-places.ensures, c.in_o
 pub remove-requires-clause-there : goal.remove-requires-clause-there
 remove-requires-clause-there g c = joined_there (row c.reserve-4.new.self c.args.addition.instance.0) (row c.push.new.self c.args.addition.instance.0) c.args.addition.instance.0 c.vacant_key.result (c.in_ok-push.ensures.rows c.args.addition.instance.0)
 
--- where nothing was added, and rows and notes have what they had
-nothing_added : (g : Over) (c : After-vacant_key g) (instance target : Rows g.row.A.Denot) (touched : Touched g.row.A.Denot)
+-- where nothing was added, and rows have what they had
+nothing_added : (g : Over) (c : After-vacant_key g) (instance target : Rows g.row.A.Denot)
     → HasRows instance_of c.self.inside.slots.slots c.self.inside.added instance
     → HasRows target_of c.self.inside.slots.slots c.self.inside.added target
-    → ((n : ℕ) → is_noted c.self.inside.touched.numbers.keys n ≡ true → is_noted touched.numbers.keys n ≡ true)
-    → IsInterest {A = g.row.A.Denot} (record { slots = c.reserve.new.self; by_key = c.reserve-2.new.self; by_instance = instance; by_target = target; passes = c.reserve-3.new.self; touched = touched; guards = c.self.inside.guards; added = c.self.inside.added })
-nothing_added g c instance target touched i t noted =
+    → IsInterest {A = g.row.A.Denot} (record { slots = c.reserve.new.self; by_key = c.reserve-2.new.self; by_instance = instance; by_target = target; passes = c.reserve-3.new.self; guards = c.self.inside.guards; added = c.self.inside.added })
+nothing_added g c instance target i t =
     let k = c.self.inside in
     let slots = ap (λ (s : Slab Entry). s.slots) (sym c.reserve.ensures.rest_kept) in
     record {
@@ -127,44 +122,26 @@ nothing_added g c instance target touched i t noted =
       by_target = subst (λ (xs : List (Option Entry)). HasRows target_of xs k.added target) slots t;
       passing = passing_same k.slots.slots c.reserve.new.self.slots k.passes.keys.items c.reserve-3.new.self.keys.items c.reserve-3.ensures.keys (λ j. ap (λ (xs : List (Option Entry)). passes_on (get_or xs j None)) (sym slots)) c.self.invariant.passing;
       room = subst (λ (xs : List (Option Entry)). length xs ≤ vec_capacity c.reserve-3.new.self.keys) slots (omega (arith, c.self.invariant.room, c.reserve-3.ensures.kept));
-      touched = touched_kept k.slots.slots c.reserve.new.self.slots k.touched.numbers.keys touched.numbers.keys (sym slots) noted c.self.invariant.touched;
       guards = c.self.invariant.guards ∙ ap (count_by is_exclusive_slot) slots;
     }
 
 pub invariant_of-self-in_err-reserve-4 : goal.invariant_of-self-in_err-reserve-4
 invariant_of-self-in_err-reserve-4 g c =
-    nothing_added g (goal.at.invariant_of-self-in_err-reserve-4 g c).After-vacant_key c.reserve-4.new.self c.self.inside.by_target c.self.inside.touched
+    nothing_added g (goal.at.invariant_of-self-in_err-reserve-4 g c).After-vacant_key c.reserve-4.new.self c.self.inside.by_target
     (record { sound = c.reserve-4.ensures.sound; rows = λ i. c.reserve-4.ensures.kept i ∙ c.self.invariant.by_instance.rows i })
     c.self.invariant.by_target
-    (λ n h. h)
 
 pub invariant_of-self-in_err-reserve-5 : goal.invariant_of-self-in_err-reserve-5
 invariant_of-self-in_err-reserve-5 g c =
-    nothing_added g (goal.at.invariant_of-self-in_err-reserve-5 g c).After-vacant_key c.reserve-4.new.self c.reserve-5.new.self c.self.inside.touched
+    nothing_added g (goal.at.invariant_of-self-in_err-reserve-5 g c).After-vacant_key c.reserve-4.new.self c.reserve-5.new.self
     (record { sound = c.reserve-4.ensures.sound; rows = λ i. c.reserve-4.ensures.kept i ∙ c.self.invariant.by_instance.rows i })
     (record { sound = c.reserve-5.ensures.sound; rows = λ i. c.reserve-5.ensures.kept i ∙ c.self.invariant.by_target.rows i })
-    (λ n h. h)
-
-pub invariant_of-self-in_err-note : goal.invariant_of-self-in_err-note
-invariant_of-self-in_err-note g c =
-    nothing_added g (goal.at.invariant_of-self-in_err-note g c).After-vacant_key c.reserve-4.new.self c.reserve-5.new.self c.note.new.self
-    (record { sound = c.reserve-4.ensures.sound; rows = λ i. c.reserve-4.ensures.kept i ∙ c.self.invariant.by_instance.rows i })
-    (record { sound = c.reserve-5.ensures.sound; rows = λ i. c.reserve-5.ensures.kept i ∙ c.self.invariant.by_target.rows i })
-    (λ n h. c.note.ensures.kept n h)
-
-pub invariant_of-self-in_err-note-2 : goal.invariant_of-self-in_err-note-2
-invariant_of-self-in_err-note-2 g c =
-    nothing_added g (goal.at.invariant_of-self-in_err-note-2 g c).After-vacant_key c.reserve-4.new.self c.reserve-5.new.self c.note-2.new.self
-    (record { sound = c.reserve-4.ensures.sound; rows = λ i. c.reserve-4.ensures.kept i ∙ c.self.invariant.by_instance.rows i })
-    (record { sound = c.reserve-5.ensures.sound; rows = λ i. c.reserve-5.ensures.kept i ∙ c.self.invariant.by_target.rows i })
-    (λ n h. c.note-2.ensures.kept n (c.note.ensures.kept n h))
 
 pub invariant_of-self-in_err-push : goal.invariant_of-self-in_err-push
 invariant_of-self-in_err-push g c =
-    nothing_added g (goal.at.invariant_of-self-in_err-push g c).After-vacant_key c.push.new.self c.reserve-5.new.self c.note-2.new.self
+    nothing_added g (goal.at.invariant_of-self-in_err-push g c).After-vacant_key c.push.new.self c.reserve-5.new.self
     (record { sound = c.push.ensures.sound; rows = λ i. c.in_err-push.ensures.kept i ∙ (c.reserve-4.ensures.kept i ∙ c.self.invariant.by_instance.rows i) })
     (record { sound = c.reserve-5.ensures.sound; rows = λ i. c.reserve-5.ensures.kept i ∙ c.self.invariant.by_target.rows i })
-    (λ n h. c.note-2.ensures.kept n (c.note.ensures.kept n h))
 
 -- what was put in one row and taken away leaves no trace
 pub invariant_of-self-in-Err : goal.invariant_of-self-in-Err
@@ -172,7 +149,6 @@ invariant_of-self-in-Err g c =
     let k = c.self.inside in
     let at = (goal.at.invariant_of-self-in-Err g c).After-vacant_key in
     let fresh = rows_fresh k.slots.slots k.added c.self.invariant.numbered instance_of c.vacant_key.result (vacant g at) k.by_instance c.reserve-4.new.self c.self.invariant.by_instance c.reserve-4.ensures.kept in
-    nothing_added g at c.remove.new.self c.push-2.new.self c.note-2.new.self
+    nothing_added g at c.remove.new.self c.push-2.new.self
     (rows_again k.slots.slots k.added instance_of c.args.addition.instance.0 c.vacant_key.result k.by_instance c.reserve-4.new.self c.push.new.self c.remove.new.self c.self.invariant.by_instance c.reserve-4.ensures.kept fresh c.in_ok-push.ensures.rows c.remove.ensures.sound c.remove.ensures.rows)
     (record { sound = c.push-2.ensures.sound; rows = λ i. c.in-Err.ensures.kept i ∙ (c.reserve-5.ensures.kept i ∙ c.self.invariant.by_target.rows i) })
-    (λ n h. c.note-2.ensures.kept n (c.note.ensures.kept n h))

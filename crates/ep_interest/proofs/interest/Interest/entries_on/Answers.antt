@@ -8,7 +8,7 @@ use Rattle.ep_interest.specs.InTurn.{AllHeld}
 use Rattle.ep_interest.specs.Listed.{listed, shown}
 use Rattle.ep_interest.specs.Registrations.{Registrations, is_on, with_ids}
 use Rattle.ep_interest.specs.View.{key_in}
-use Rattle.ep_rings.specs.KeyWalk.{id_at}
+use Rattle.ep_rings.specs.KeyWalk.{entry_id}
 use Rattle.ep_interest.specs.declared.entry.Entry.{Entry}
 use Rattle.ep_interest.proofs.KeysWithLemmas.{IsAtKey, at_keys}
 use Rattle.ep_interest.proofs.ListedLemmas.{held_at, listed_at}
@@ -24,10 +24,10 @@ mine_at g c =
     let k = c.self.inside in
     All-filter (is_on c.args.desc) (IsAtKey k.slots.slots) (in_order k.slots.slots k.added) (at_keys k.slots.slots k.added c.self.invariant.numbered)
 
-keys_are : (g : Over) (c : goal.After-keys-keys g) → c.keys-keys.result ≡ map id_at (map (key_in c.self.inside.slots.slots) (mine g c))
-keys_are g c = c.keys-keys.ensures ∙ ap (map id_at) (c.self.invariant.by_target.rows c.args.desc.0)
+keys_are : (g : Over) (c : goal.After-keys-keys g) → c.keys-keys.result ≡ map entry_id (map (key_in c.self.inside.slots.slots) (mine g c))
+keys_are g c = c.keys-keys.ensures ∙ ap (map entry_id) (c.self.invariant.by_target.rows c.args.desc.0)
 
-are : (g : Over) (c : goal.After-keys-keys g) → listed c.self.inside.slots.slots c.keys-keys.result ≡ map (λ x. (id_at (key_in c.self.inside.slots.slots x), x)) (mine g c)
+are : (g : Over) (c : goal.After-keys-keys g) → listed c.self.inside.slots.slots c.keys-keys.result ≡ map (λ x. (entry_id (key_in c.self.inside.slots.slots x), x)) (mine g c)
 are g c = let k = c.self.inside in ap (listed k.slots.slots) (keys_are g c) ∙ listed_at k.slots.slots (mine g c) (mine_at g c)
 
 pub invariant_of-result : goal.invariant_of-result

@@ -10,7 +10,6 @@ use Rattle.ep_interest.proofs.IndexLemmas.{index_next}
 use Rattle.ep_interest.proofs.ReplaceLemmas.{Replaced, modified_keeps, keys_same, modified_other, modified_this, number_is, replaced}
 use Rattle.ep_interest.proofs.PassesLemmas.{passing_replaced}
 use Rattle.ep_interest.proofs.KeysWithLemmas.{rows_changed}
-use Rattle.ep_interest.proofs.TouchedLemmas.{touched_next}
 use Rattle.ep_interest.proofs.GuardsLemmas.{count_but, one}
 use Rattle.ep_interest.specs.Exclusive.{is_exclusive, is_exclusive_slot}
 use Rattle.ep_interest.proofs.interest.Interest.modify.Given.{Over}
@@ -56,7 +55,6 @@ invariant_of-self g c =
       by_target = rows_changed k.slots.slots after k.added (modified x.number c.args.mask c.args.tag) (same_keys g c) (changed g c) (modified_keeps x.number c.args.mask c.args.tag).number target_of (modified_keeps x.number c.args.mask c.args.tag).target_kept k.by_target c.self.invariant.by_target;
       passing = passing_replaced k.slots.slots after k.passes.keys.items c.args.id.0 x (next g c) s refl c.self.invariant.passing;
       room = rw (length-set k.slots.slots c.args.id.0 (Some (next g c))) c.self.invariant.room;
-      touched = touched_next k.slots.slots after k.touched.numbers.keys c.args.id.0 x (next g c) s refl refl c.self.invariant.touched;
       guards = guards_changed g c s;
     }
 

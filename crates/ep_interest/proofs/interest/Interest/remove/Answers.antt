@@ -14,7 +14,6 @@ use Rattle.ep_interest.proofs.PassesLemmas.{held_within, passing_one, room_for}
 use Rattle.ep_interest.proofs.KeysWithLemmas.{rows_less, rows_there}
 use Rattle.ep_interest.proofs.GuardsLemmas.{count_but, one}
 use Rattle.ep_interest.specs.Exclusive.{is_exclusive, is_exclusive_slot}
-use Rattle.ep_interest.proofs.TouchedLemmas.{touched_less}
 use Rattle.ep_interest.proofs.interest.Interest.remove.Given.{Over}
 use Rattle.ep_interest.proofs.interest.Interest.remove.Goals as goal
 
@@ -66,7 +65,6 @@ invariant_of-self g c = record {
   passing = let k = c.self.inside in let s = in_slots g c in passing_one k.slots.slots c.remove-entry.new.self.slots k.passes.keys.items c.follow.new.self.keys.items c.args.id.0 false c.self.invariant.passing c.follow.ensures.once c.follow.ensures.noted (ap passes_on s.gone) s.others;
   room = rw (c.remove-entry.ensures.slots, length-set c.self.inside.slots.slots c.args.id.0 None) (omega (arith, c.follow.ensures.kept, c.self.invariant.room));
   guards = guards_left g c (in_slots g c);
-  touched = touched_less c.self.inside.slots.slots c.remove-entry.new.self.slots c.self.inside.touched.numbers.keys c.args.id.0 c.remove-entry.result (in_slots g c) c.self.invariant.touched;
 }
 
 pub returns-clause-entries : goal.returns-clause-entries

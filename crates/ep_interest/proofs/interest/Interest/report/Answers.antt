@@ -10,7 +10,6 @@ use Rattle.ep_interest.proofs.IndexLemmas.{index_next}
 use Rattle.ep_interest.proofs.ReplaceLemmas.{Replaced, reported_keeps, keys_same, number_is, replaced, reported_other, reported_this}
 use Rattle.ep_interest.proofs.PassesLemmas.{passing_replaced}
 use Rattle.ep_interest.proofs.KeysWithLemmas.{rows_changed}
-use Rattle.ep_interest.proofs.TouchedLemmas.{touched_next}
 use Rattle.ep_interest.proofs.GuardsLemmas.{count_but, one}
 use Rattle.ep_interest.specs.Exclusive.{is_exclusive_slot}
 use Rattle.ep_interest.proofs.interest.Interest.report.Given.{Over}
@@ -43,7 +42,6 @@ invariant_of-self g c =
       by_target = rows_changed k.slots.slots after k.added (reported x.number c.args.event) (same_keys g c) (changed g c) (reported_keeps x.number c.args.event).number target_of (reported_keeps x.number c.args.event).target_kept k.by_target c.self.invariant.by_target;
       passing = passing_replaced k.slots.slots after k.passes.keys.items c.args.id.0 x (next g c) s refl c.self.invariant.passing;
       room = rw (length-set k.slots.slots c.args.id.0 (Some (next g c))) c.self.invariant.room;
-      touched = touched_next k.slots.slots after k.touched.numbers.keys c.args.id.0 x (next g c) s refl refl c.self.invariant.touched;
       guards = let b = count_but k.slots.slots after c.args.id.0 s.others in let g : one (is_exclusive_slot (get_or after c.args.id.0 None)) ≡ one (is_exclusive_slot (get_or k.slots.slots c.args.id.0 None)) = (λ i. one (is_exclusive_slot (s.here i))) ∙ sym (λ i. one (is_exclusive_slot (s.was i))) in omega (arith, c.self.invariant.guards, b, g);
     }
 

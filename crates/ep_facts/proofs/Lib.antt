@@ -1,0 +1,5 @@
+pub mod BoolFacts
+pub mod NatFacts
+pub mod OptionFacts
+pub mod ListFacts
+pub mod AmongFacts
