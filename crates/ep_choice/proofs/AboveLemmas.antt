@@ -2,7 +2,8 @@
 use Rattle.std.proofs.Common.{◌≡◌, ◌∙◌, ◌==◌, ◌&&◌, ◌||◌, ◌↔◌, ◌⊎◌, ℕ, suc, All, Bool, true, false, List, ap, inl, inr, not, refl, subst, sym}
 use Rattle.std.specs.List.{list_any}
 use Rattle.std.proofs.lemmas.Bool.{false≢true}
-use Rattle.ep_calls.proofs.FindLemmas.{same_bools}
+use Rattle.ep_facts.proofs.NatFacts.{from_test, same_test}
+use Rattle.ep_facts.proofs.BoolFacts.{first_of_and, or_cases, or_left, or_right, same_bools, second_of_and}
 use Rattle.ep_calls.proofs.GraphLemmas.{Lives, number, numbers_apart}
 use Rattle.ep_calls.proofs.HoldLemmas.{numbers_apart_at}
 use Rattle.ep_calls.specs.Climb.{AreNested}
@@ -12,10 +13,7 @@ use Rattle.ep_climb.proofs.ReachLemmas.{all_open, back, ends_live, forth, short}
 use Rattle.ep_climb.specs.Reach.{IsFrom, open_edges}
 use Rattle.ep_interest.specs.Registrations.{IsSound, Registrations}
 use Rattle.ep_law.proofs.GraphLemmas.{member_of_map}
-use Rattle.ep_law.proofs.ListLemmas.{all_member, among, among_member, any_member, first_of_and, member_map, second_of_and}
-use Rattle.ep_law.proofs.NarrowLemmas.{either_or}
-use Rattle.ep_law.proofs.ReachLemmas.{any_has}
-use Rattle.ep_law.proofs.TestLemmas.{from_test, or_left, or_right, same_test}
+use Rattle.ep_law.proofs.ListLemmas.{all_member, among, among_member, any_has, any_member, member_map}
 use Rattle.ep_law.specs.Laws.{Member, has_instance}
 use Rattle.ep_machine.specs.Lists.{is_among}
 use Rattle.ep_machine.specs.State.{Waiter}
@@ -109,7 +107,7 @@ module _ (v : Seen) (tables : SoundTables v) (r : Registrations) (sound : IsSoun
             let finds : asks (at_number (number v) w) ≡ true = ap asks u.2 ∙ some.2 in
             let waits : awaited w.instance ≡ true = sym (same_awaited w u.1) ∙ second_of_and (z.instance == number v w.instance || above_now v.files watches z.instance (number v w.instance)) _ finds in
             let lives_there = placed_at w u.1 in
-            let reached : is_among rs w.instance ≡ true = (found w.instance).1 (inr (elim (either_or (z.instance == number v w.instance) (above_now v.files watches z.instance (number v w.instance)) (first_of_and _ _ finds)) [
+            let reached : is_among rs w.instance ≡ true = (found w.instance).1 (inr (elim (or_cases (z.instance == number v w.instance) (above_now v.files watches z.instance (number v w.instance)) (first_of_and _ _ finds)) [
               | inl here ↦ inl (numbers_apart v tables w.instance inner lives_there lives (sym (from_test z.instance (number v w.instance) here) ∙ at))
               | inr above ↦ inr (above_down w.instance lives_there (ap (λ (e : ℕ). above_now v.files watches e (number v w.instance)) (sym at) ∙ above))
             ])) in

@@ -3,6 +3,8 @@ use Rattle.std.proofs.Common.{◌≡◌, ◌∙◌, ◌⊎◌, ◌&&◌, ◌==�
 use Rattle.std.specs.List.{list_any}
 use Rattle.std.specs.Option.{option_map}
 use Rattle.std.proofs.lemmas.Bool.{false≢true}
+use Rattle.ep_facts.proofs.NatFacts.{from_test}
+use Rattle.ep_facts.proofs.BoolFacts.{or_cases}
 use Rattle.ep_base.specs.declared.ids.DescId.{DescId}
 use Rattle.ep_base.specs.declared.ids.EntryId.{EntryId}
 use Rattle.ep_calls.specs.Parts.{Parts}
@@ -17,21 +19,19 @@ use Rattle.ep_climb.specs.Reach.{IsClosed, open_edges}
 use Rattle.ep_interest.specs.Exclusive.{kept_passing, stops}
 use Rattle.ep_interest.specs.Registrations.{Registrations, entry_found, entry_under, lets_in, number_under, numbered}
 use Rattle.ep_interest.specs.declared.entry.Entry.{Entry}
-use Rattle.ep_law.proofs.NarrowLemmas.{either_or}
-use Rattle.ep_law.proofs.TestLemmas.{from_test}
 use Rattle.ep_machine.specs.Lists.{is_among}
 use Rattle.ep_machine.specs.State.{Waiter}
 use Rattle.ep_machine.specs.Waits.{is_marked_at, waits_at}
 use Rattle.ep_nest.specs.Links.{admitted_by, edges}
 use Rattle.ep_nest.specs.declared.link.Link.{Link}
-use Rattle.ep_ready.specs.ReadyLists.{entry_id}
-use Rattle.ep_ready.specs.Walk.{Walk, with_noted, with_reached}
+use Rattle.ep_rings.specs.KeyWalk.{entry_id}
+use Rattle.ep_walk.specs.Walk.{Walk, with_noted, with_reached}
 use Rattle.ep_table.specs.Value.{Seen}
 
 noted_either : (w : Walk) (i j : ℕ) → is_among (with_noted w i).reached j ≡ true → (is_among w.reached j ≡ true) ⊎ (j ≡ i)
 noted_either w i j t = by (nat_lt i w.room) t where
   by : (b : Bool) → is_among (cond b (with_reached w i) w).reached j ≡ true → (is_among w.reached j ≡ true) ⊎ (j ≡ i)
-  by true t = elim (either_or (is_among w.reached j) (j == i) (sym ((reaches_one w i (with_reached w i) refl).each j) ∙ t)) [ inl before ↦ inl before | inr here ↦ inr (from_test j i here) ]
+  by true t = elim (or_cases (is_among w.reached j) (j == i) (sym ((reaches_one w i (with_reached w i) refl).each j) ∙ t)) [ inl before ↦ inl before | inr here ↦ inr (from_test j i here) ]
   by false t = inl t
 
 module _ (v : Seen) (now : ℕ) (r : Registrations) (ws : List Waiter) where

@@ -4,6 +4,8 @@ use Rattle.std.specs.List.{find, list_any}
 use Rattle.std.specs.Option.{option_map}
 use Rattle.std.specs.Prelude.{MatchOption}
 use Rattle.std.proofs.lemmas.Bool.{cases_Bool, false≢true}
+use Rattle.ep_facts.proofs.NatFacts.{from_test, same_nat, same_test}
+use Rattle.ep_facts.proofs.BoolFacts.{first_of_and, or_left, or_nothing as one, or_right, same_bools, second_of_and}
 use Rattle.ep_base.specs.declared.call.Event.{Event}
 use Rattle.ep_base.specs.declared.call.Event.TheVariants.{Call as CallOf, Resume, Tick}
 use Rattle.ep_base.specs.declared.errno.Errno.{Errno}
@@ -11,7 +13,6 @@ use Rattle.ep_base.specs.declared.ids.CallerId.{CallerId}
 use Rattle.ep_base.specs.declared.ids.DescId.{DescId}
 use Rattle.ep_base.specs.declared.record.Record.{Record}
 use Rattle.ep_calls.proofs.AttendLemmas.{raises_in_is}
-use Rattle.ep_calls.proofs.FindLemmas.{same_bools}
 use Rattle.ep_calls.proofs.HoldLemmas.{numbers_apart_at}
 use Rattle.ep_calls.proofs.KeepsLemmas.{DoesAt}
 use Rattle.ep_calls.proofs.KeyLemmas.{number_kept}
@@ -29,9 +30,7 @@ use Rattle.ep_calls.specs.declared.raising.Raising.{Raising}
 use Rattle.ep_calls.specs.declared.raising.Raising.TheVariants.{Clock, Instance, Nowhere, Object as AtObject}
 use Rattle.ep_climb.proofs.MarkLemmas.{lives_where}
 use Rattle.ep_climb.specs.Mark.{attended, attends, left_at, resumed_at}
-use Rattle.ep_law.proofs.ListLemmas.{any_member, any_same, first_of_and, member_map, second_of_and}
-use Rattle.ep_law.proofs.ReachLemmas.{any_has}
-use Rattle.ep_law.proofs.TestLemmas.{from_test, or_left, or_right, same_nat, same_test}
+use Rattle.ep_law.proofs.ListLemmas.{any_has, any_member, any_same, member_map}
 use Rattle.ep_law.specs.Laws.{Member}
 use Rattle.ep_machine.specs.Bits.{IN, has_bit}
 use Rattle.ep_machine.specs.Effect.{first}
@@ -219,10 +218,7 @@ left_some true o j h = absurd cc
 left_some false o j h = (refl, h)
 
 turned : (a b : ℕ) → (a == b || false) ≡ (b == a || false)
-turned a b = same_bools (a == b || false) (b == a || false) (λ t. or_left (b == a) false (same_test b a (sym (from_test a b (one (a == b) t))))) (λ t. or_left (a == b) false (same_test a b (sym (from_test b a (one (b == a) t))))) where
-  one : (c : Bool) → (c || false) ≡ true → c ≡ true
-  one true h = refl
-  one false h = h
+turned a b = same_bools (a == b || false) (b == a || false) (λ t. or_left (b == a) false (same_test b a (sym (from_test a b (one (a == b) t))))) (λ t. or_left (a == b) false (same_test a b (sym (from_test b a (one (b == a) t)))))
 
 -- One event, up to its marks, at an instance at which somebody waits.
 module _ (past : List Record) (old mid left : Parts) (keeps : Keeps past old) (caller : CallerId) (event : Event) (outcome : Outcome) (n : ℕ)
@@ -318,10 +314,7 @@ module _ (past : List Record) (old mid left : Parts) (keeps : Keeps past old) (c
         let told = left_some (list_any (is_caller caller.0) left.parked) (resumed_at old.parked caller.0 event) j is in
         let at : e ≡ j.0 = from_test e j.0 (one (e == j.0) h) in
         let resumes = there_resumes old.tables old.parked coherent.placed caller.0 (next_event s) keeps.stands.waiters event j told.1 d (λ lives. sym (number_kept old.tables mid.tables j keys lives) ∙ (ap (λ (k : ℕ). number_at mid.tables.keys (record { 0 = k })) (sym at) ∙ number_mid)) in
-        (stood_at.leaves d).there resumes (parked_same ∙ told.0) where
-          one : (c : Bool) → (c || false) ≡ true → c ≡ true
-          one true t = refl
-          one false t = t
+        (stood_at.leaves d).there resumes (parked_same ∙ told.0)
 
     left_is : left_now waited (waiters_at buried.tables.keys buried.parked) d ≡ is_among (attended gone) e
     left_is = left_same ∙ same_bools (is_left (next_event s) u d) (is_among (attended gone) e) gone_there (there_gone gone refl)

@@ -2,6 +2,8 @@
 -- them.
 use Rattle.std.proofs.Common.{◌≡◌, ℕ, ◌&&◌, ◌||◌, ◌++◌, ◌∙◌, ◌⊎◌, Bool, true, false, List, [], ◌∷◌, MatchOption, None, Option, Some, ℤ, pos, negsuc, zero, suc, ap, cond, filter, inl, inr, map, not, refl, subst, sym}
 use Rattle.std.proofs.lemmas.Bool.{false≢true}
+use Rattle.ep_facts.proofs.NatFacts.{same_nat}
+use Rattle.ep_facts.proofs.BoolFacts.{and_not_itself}
 use Rattle.ep_base.specs.Limits.{Limits}
 use Rattle.ep_base.specs.declared.answer.Answer.TheVariants.{Events}
 use Rattle.ep_base.specs.declared.call.Call.{Call}
@@ -9,7 +11,6 @@ use Rattle.ep_base.specs.declared.call.Call.TheVariants.{EpollCtl, EpollWait}
 use Rattle.ep_base.specs.declared.call.Event.{Event}
 use Rattle.ep_base.specs.declared.call.Event.TheVariants.{Call as CallOf, Resume, Tick}
 use Rattle.ep_law.proofs.StepLemmas.{left_after, resumes}
-use Rattle.ep_law.proofs.TestLemmas.{same_nat}
 use Rattle.ep_machine.specs.Bits.{ONESHOT, has_bit}
 use Rattle.ep_machine.specs.Deaths.{dying, named_in_tables}
 use Rattle.ep_machine.specs.Files.{Place, is_live, live, named_by}
@@ -124,7 +125,4 @@ no_pairs (x ∷ xs) h = absurd (false≢true (sym (h x.0) ∙ (λ i. same_nat x.
 pub none_dies : (b u : State) → AtRest b → SameNames b u → dying u ≡ []
 none_dies b u rest same =
     (λ i. filter (λ x. not (is_among (named_in_tables (same.files i).tables ++ map (λ w. w.instance) (same.waiters i)) x.0)) (live (same.files i)))
-    ∙ no_pairs (dying b) (λ d. dying_test b d ∙ (ap (λ (a : Bool). is_live b.files d && not a) (rest.named d) ∙ never (is_live b.files d))) where
-      never : (a : Bool) → (a && not a) ≡ false
-      never true = refl
-      never false = refl
+    ∙ no_pairs (dying b) (λ d. dying_test b d ∙ (ap (λ (a : Bool). is_live b.files d && not a) (rest.named d) ∙ and_not_itself (is_live b.files d)))

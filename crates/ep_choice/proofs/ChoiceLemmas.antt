@@ -14,7 +14,6 @@ use Rattle.ep_interest.specs.Exclusive.{exclusive_of, is_exclusive}
 use Rattle.ep_interest.specs.Registrations.{IsSound, Registrations, entry_found, entry_under, id_of, is_on, with_ids}
 use Rattle.ep_interest.specs.declared.entry.Entry.{Entry}
 use Rattle.ep_law.proofs.ListLemmas.{all_member, filtered_member}
-use Rattle.ep_law.proofs.TestLemmas.{same_test}
 use Rattle.ep_law.specs.Laws.{Member}
 use Rattle.ep_machine.specs.State.{Waiter}
 use Rattle.ep_table.specs.Value.{Seen, Sound, number_of, number_under}

@@ -14,7 +14,7 @@ use Rattle.ep_interest.specs.Registrations.{IsSound, entry_under}
 use Rattle.ep_interest.specs.declared.entry.Entry.{Entry}
 use Rattle.ep_machine.specs.Watches.{is_legal}
 use Rattle.ep_nest.specs.Links.{edges}
-use Rattle.ep_ready.specs.Walk.{Walk}
+use Rattle.ep_walk.specs.Walk.{Walk}
 use Rattle.ep_table.specs.Value.{Sound}
 
 module _ (p : Parts) (coherent : AreCoherent p) (tables : Sound p.tables) (sound : IsSound p.interest) (legal : is_legal (edges p.graph) ≡ true) (instances : HaveInstances p)

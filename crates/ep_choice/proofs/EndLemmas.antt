@@ -4,6 +4,8 @@ use Rattle.std.specs.Option.{option_map}
 use Rattle.std.specs.Prelude.{MatchOption}
 use Rattle.std.proofs.lemmas.Bool.{cases_Bool, false≢true}
 use Rattle.std.proofs.lemmas.List.Elements.{All-cons, All-contains, All-head, All-nil, All-tail}
+use Rattle.ep_facts.proofs.NatFacts.{same_test}
+use Rattle.ep_facts.proofs.BoolFacts.{and_or_more, or_cases, or_left, or_right}
 use Rattle.ep_base.specs.Limits.{Limits}
 use Rattle.ep_base.specs.declared.answer.Answer.{Answer}
 use Rattle.ep_base.specs.declared.call.Event.{Event}
@@ -41,13 +43,11 @@ use Rattle.ep_interest.specs.Exclusive.{is_exclusive}
 use Rattle.ep_interest.specs.Registrations.{numbered, settled}
 use Rattle.ep_interest.specs.declared.entry.Entry.{Entry}
 use Rattle.ep_law.proofs.GraphLemmas.{member_of_map}
-use Rattle.ep_law.proofs.ListLemmas.{all_member, among, any_member, member_filter, member_map}
+use Rattle.ep_law.proofs.ListLemmas.{all_member, among, any_has, any_member, member_filter, member_map}
 use Rattle.ep_law.proofs.MarkLemmas.{marked_parts, none_forgotten}
-use Rattle.ep_law.proofs.ReachLemmas.{any_has, instance_is}
-use Rattle.ep_law.proofs.NarrowLemmas.{either_or}
+use Rattle.ep_law.proofs.ReachLemmas.{instance_is}
 use Rattle.ep_law.proofs.RegularLemmas.{runs_are_regular}
 use Rattle.ep_law.proofs.StepLemmas.{after_first, change_counted, change_n, refused_step, step_changed}
-use Rattle.ep_law.proofs.TestLemmas.{or_left, or_right, same_test}
 use Rattle.ep_law.specs.Laws.{Member, has_instance}
 use Rattle.ep_machine.specs.Bits.{EXCLUSIVE, IN, has_bit}
 use Rattle.ep_machine.specs.Deaths.{die_all}
@@ -93,15 +93,10 @@ still_marked now ws e h = elim (cases_Bool (is_marked_at ws e)) [
   | inl t ↦ absurd (false≢true (sym h ∙ still ws t))
   | inr f ↦ f
 ] where
-  both : (a b c : Bool) → (a && b) ≡ true → (a && (b || c)) ≡ true
-  both true true c k = refl
-  both true false c k = absurd (false≢true k)
-  both false b c k = absurd (false≢true k)
-
   still : (us : List Waiter) → is_marked_at us e ≡ true → is_marked_at (map (marked_if_due now) us) e ≡ true
   still us t =
       let w = any_member (λ u. u.instance == e && u.marked) us t in
-      any_has (λ u. u.instance == e && u.marked) (map (marked_if_due now) us) (marked_if_due now w.0) (member_map (marked_if_due now) w.0 us w.1) (both (w.0.instance == e) w.0.marked _ w.2)
+      any_has (λ u. u.instance == e && u.marked) (map (marked_if_due now) us) (marked_if_due now w.0) (member_map (marked_if_due now) w.0 us w.1) (and_or_more (w.0.instance == e) w.0.marked _ w.2)
 
 -- who gets a mark has one then
 gets_marked : (test : ℕ → Bool) (now : ℕ) (ws : List Waiter) (e : ℕ) → waits_at ws e ≡ true → test e ≡ true → is_marked_at (marked_by test now ws) e ≡ true
@@ -579,7 +574,7 @@ module _ (past : List Record) (old mid left : Parts) (keeps : Keeps past old) (c
       guards_then is = ap (λ (k : ℕ). has_bit k EXCLUSIVE) same_mask ∙ is
 
       may_then : may_guard old.tables x ≡ true → may_guard mid.tables kept_entry ≡ true
-      may_then h = elim (either_or (is_exclusive x) (is_nested old.tables x) h) [
+      may_then h = elim (or_cases (is_exclusive x) (is_nested old.tables x) h) [
         | inl is ↦ or_left (is_exclusive kept_entry) (is_nested mid.tables kept_entry) (guards_then is)
         | inr nested ↦ or_right (is_exclusive kept_entry) (is_nested mid.tables kept_entry) (nested_stays nested)
       ]

@@ -3,6 +3,8 @@ use Rattle.std.proofs.Common.{◌≡◌, ◌∙◌, ◌==◌, ◌&&◌, ◌++◌
 use Rattle.std.specs.Option.{option_map}
 use Rattle.std.proofs.lemmas.Bool.{false≢true}
 use Rattle.std.proofs.lemmas.List.Elements.{All-cons, All-filter, All-head, All-nil, All-tail}
+use Rattle.ep_facts.proofs.NatFacts.{from_test}
+use Rattle.ep_facts.proofs.BoolFacts.{or_cases}
 use Rattle.ep_base.specs.declared.ids.DescId.{DescId}
 use Rattle.ep_base.specs.declared.ids.EntryId.{EntryId}
 use Rattle.ep_calls.proofs.EntryKeyLemmas.{IsFound, IsKeyed, each_found, each_keyed}
@@ -16,11 +18,9 @@ use Rattle.ep_interest.specs.Registrations.{IsSound, Registrations, entry_found,
 use Rattle.ep_interest.specs.declared.entry.Entry.{Entry}
 use Rattle.ep_machine.specs.State.{Waiter}
 use Rattle.ep_law.proofs.ListLemmas.{all_member, filtered_member}
-use Rattle.ep_law.proofs.NarrowLemmas.{either_or}
-use Rattle.ep_law.proofs.TestLemmas.{from_test}
 use Rattle.ep_law.specs.Laws.{Member}
 use Rattle.ep_machine.specs.Lists.{is_among}
-use Rattle.ep_ready.specs.Walk.{Walk, with_reached}
+use Rattle.ep_walk.specs.Walk.{Walk, with_reached}
 use Rattle.ep_table.specs.Value.{Seen, Sound, number_under}
 
 -- once some of them were asked, with what is left
@@ -86,7 +86,7 @@ module _ (r : Registrations) (target : DescId) (n : ℕ) (old : Walk) where
     sound = subst (λ (w : Walk). AreKeys r w.reached) (sym is) (keys (p.1.passes_in == n));
   } where
     keys : (b : Bool) → AreKeys r (cond b (with_reached mid p.0.0) mid).reached
-    keys true k t = elim (either_or (is_among mid.reached k) (k == p.0.0) (sym ((reaches_one mid p.0.0 (with_reached mid p.0.0) refl).each k) ∙ t)) [
+    keys true k t = elim (or_cases (is_among mid.reached k) (k == p.0.0) (sym ((reaches_one mid p.0.0 (with_reached mid p.0.0) refl).each k) ∙ t)) [
       | inl before ↦ h.sound k before
       | inr here ↦ subst (λ (m : ℕ). IsSome (entry_number r (record { 0 = m }))) (sym (from_test k p.0.0 here)) (numbered_under r p.0 p.1 (All-head (λ (q : EntryId × Entry). entry_under r q.0 ≡ Some q.1) p left h.under))
     ]

@@ -2,12 +2,12 @@
 use Rattle.std.proofs.Common.{◌≡◌, ◌∙◌, ◌+◌, ◌<◌, ◌||◌, ◌⊎◌, ◌↔◌, ℕ, suc, Bool, true, false, Contains, List, [], ◌∷◌, ap, cond, filter, get_or, inl, inr, length, map, nat_lt, refl, subst, sym, take, arith}
 use Rattle.std.specs.List.{list_any}
 use Rattle.std.proofs.lemmas.Bool.{cases_Bool, false≢true}
-use Rattle.std.proofs.lemmas.Bool.Decides.{nat_tests}
 use Rattle.std.proofs.lemmas.List.{take_more}
 use Rattle.std.proofs.lemmas.List.Elements.{All-contains}
 use Rattle.std.proofs.lemmas.List.Recursion.{or_at, or_push}
+use Rattle.ep_facts.proofs.BoolFacts.{same_bools}
+use Rattle.ep_facts.proofs.NatFacts.{from_test, is_positive, same_test}
 use Rattle.ep_base.specs.declared.ids.DescId.{DescId}
-use Rattle.ep_calls.proofs.FindLemmas.{same_bools}
 use Rattle.ep_calls.proofs.GraphLemmas.{Lives, number, numbers_apart}
 use Rattle.ep_calls.specs.Climb.{AreNested, is_nested, is_nested_key, link_of}
 use Rattle.ep_calls.specs.Readiness.{watches_of}
@@ -20,9 +20,7 @@ use Rattle.ep_interest.specs.Exclusive.{is_exclusive}
 use Rattle.ep_interest.specs.Registrations.{Registrations, is_of}
 use Rattle.ep_interest.specs.declared.entry.Entry.{Entry}
 use Rattle.ep_law.proofs.GraphLemmas.{member_of_map}
-use Rattle.ep_law.proofs.ListLemmas.{all_member, among, among_member, any_member, filtered_member, filtered_passes, member_filter, member_map}
-use Rattle.ep_law.proofs.ReachLemmas.{any_has}
-use Rattle.ep_law.proofs.TestLemmas.{from_test, same_test}
+use Rattle.ep_law.proofs.ListLemmas.{all_member, among, among_member, any_has, any_member, filtered_member, filtered_passes, member_filter, member_map}
 use Rattle.ep_law.specs.Laws.{Member, has_instance}
 use Rattle.ep_machine.specs.Watches.{is_legal}
 use Rattle.ep_nest.proofs.ElementLemmas.{Contains-from_filter, Contains-from_map}
@@ -47,8 +45,6 @@ module _ (p : DescId → Bool) (ds : List DescId) (i : ℕ) (z : DescId) (lt : i
   none_more h n = ap (list_any p) (take_more ds i z lt) ∙ (or_push (list_any p) p refl (λ x xs. refl) (take i ds) (get_or ds i z) ∙ (λ j. h j || n j))
 
 -- A list that has something.
-pub is_positive : (n : ℕ) → 0 < n → nat_lt 0 n ≡ true
-is_positive n h = grind (arith, nat_tests, h)
 
 long_some : {X : Type 0} (xs : List X) (x : X) → Member x xs → nat_lt 0 (length xs) ≡ true
 long_some [] x m = absurd m

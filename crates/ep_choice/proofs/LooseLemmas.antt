@@ -3,6 +3,9 @@ use Rattle.std.proofs.Common.{◌≡◌, ◌∙◌, ◌+◌, ◌<◌, ◌&&◌, 
 use Rattle.std.proofs.lemmas.Bool.{cases_Bool, false≢true}
 use Rattle.std.proofs.lemmas.List.{take_more}
 use Rattle.std.proofs.lemmas.List.Recursion.{or_push}
+use Rattle.std.proofs.Math.Bool.{and-false}
+use Rattle.ep_facts.proofs.NatFacts.{from_test, same_nat}
+use Rattle.ep_facts.proofs.BoolFacts.{first_of_and, or_cases, or_left, or_right, second_of_and}
 use Rattle.ep_calls.specs.Parts.{Parts}
 use Rattle.ep_choice.proofs.WalkLemmas.{at_place}
 use Rattle.ep_choice.specs.Choose.{awaited_key}
@@ -10,9 +13,6 @@ use Rattle.ep_choice.specs.Guarded.{guarded_key}
 use Rattle.ep_choice.specs.Lost.{AreAbove, is_loose, marked_loose}
 use Rattle.ep_climb.proofs.MarkLemmas.{ready_in, turn_next, unwaited, with_parked}
 use Rattle.ep_climb.specs.Reach.{Ascends, IsFrom}
-use Rattle.ep_law.proofs.ListLemmas.{first_of_and, second_of_and}
-use Rattle.ep_law.proofs.NarrowLemmas.{either_or}
-use Rattle.ep_law.proofs.TestLemmas.{from_test, or_left, or_right, same_nat}
 use Rattle.ep_machine.specs.Lists.{is_among}
 use Rattle.ep_machine.specs.State.{Waiter}
 use Rattle.ep_machine.specs.Waits.{is_marked_at, waits_at}
@@ -20,7 +20,7 @@ use Rattle.ep_nest.specs.Links.{admitted_by}
 use Rattle.ep_nest.specs.declared.link.Link.{Link}
 use Rattle.ep_park.specs.Turns.{marked_in_turn}
 use Rattle.ep_park.specs.Waiters.{first_marked, longest_marked}
-use Rattle.ep_ready.specs.Walk.{Walk}
+use Rattle.ep_walk.specs.Walk.{Walk}
 
 pub admitted_all : (ls : List Link) → admitted_by (λ k. true) ls ≡ ls
 admitted_all [] = refl
@@ -41,18 +41,15 @@ module _ (es : List (ℕ × ℕ)) where
     to (inr up) = (k, among_more k ∙ or_right (is_among (take i ks) k) (k == k) (same_nat k), up)
 
     from : (j : ℕ) × (is_among (take (i + 1) ks) j ≡ true) × IsFrom es e j → is_among new.reached e ≡ true
-    from h = elim (either_or (is_among (take i ks) h.0) (h.0 == k) (sym (among_more h.0) ∙ h.1)) [
+    from h = elim (or_cases (is_among (take i ks) h.0) (h.0 == k) (sym (among_more h.0) ∙ h.1)) [
       | inl before ↦ (a.exact e).1 (inl ((above e).1 (h.0, before, h.2)))
       | inr here ↦ (a.exact e).1 (inr (subst (λ (n : ℕ). IsFrom es e n) (from_test h.0 k here) h.2))
     ]
 
 -- A guarded instance is not loose, and another is where it is ready.
-and_false : (a : Bool) → (a && false) ≡ false
-and_false true = refl
-and_false false = refl
 
 pub guarded_still : (p : Parts) (e : ℕ) → guarded_key p.tables p.interest e ≡ true → p ≡ with_parked p (marked_loose p e p.parked)
-guarded_still p e h = ap (λ (b : Bool). with_parked p (if b then longest_marked e p.parked else p.parked)) (sym (ap (λ (b : Bool). ready_in p e && not b) h ∙ and_false (ready_in p e)))
+guarded_still p e h = ap (λ (b : Bool). with_parked p (if b then longest_marked e p.parked else p.parked)) (sym (ap (λ (b : Bool). ready_in p e && not b) h ∙ and-false (ready_in p e)))
 
 -- where no marked one is missing
 unmarked : (r g m : Bool) (us ws : List Waiter) → (r && true && not m) ≡ false → (if r && g then (if m then ws else us) else ws) ≡ ws

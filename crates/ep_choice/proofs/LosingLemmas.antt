@@ -1,66 +1,35 @@
 -- Which instances are noted, as those that lose a registration.
-use Rattle.std.proofs.Common.{◌≡◌, ◌≢◌, ◌∙◌, ◌++◌, ◌==◌, ◌&&◌, ◌||◌, ℕ, Bool, true, false, List, [], ◌∷◌, None, Option, Some, ap, append_assoc, arith, cond, filter, if◌then◌else◌, inl, inr, length, map, nat_lt, refl, subst, sym}
-use Rattle.std.proofs.Math.Bool.{or-false, or_assoc}
+use Rattle.std.proofs.Common.{◌≡◌, ◌≢◌, ◌∙◌, ◌==◌, ◌&&◌, ◌||◌, ℕ, Bool, true, false, List, [], ◌∷◌, None, Option, Some, ap, arith, cond, filter, if◌then◌else◌, inl, inr, length, map, nat_lt, refl, subst, sym}
 use Rattle.std.specs.List.{list_any}
+use Rattle.ep_facts.proofs.BoolFacts.{first_of_and, or_right}
+use Rattle.ep_facts.proofs.NatFacts.{is_positive, same_nat, test_turned}
 use Rattle.ep_base.specs.declared.ids.DescId.{DescId}
 use Rattle.ep_base.specs.declared.ids.EntryId.{EntryId}
 use Rattle.ep_calls.proofs.EntryKeyLemmas.{IsFound, IsKeyed, each_found, each_keyed}
-use Rattle.ep_calls.proofs.FindLemmas.{same_bools}
 use Rattle.ep_calls.specs.Parts.{Parts}
 use Rattle.ep_calls.specs.declared.control.Operation.{Operation}
 use Rattle.ep_calls.specs.declared.control.Operation.TheVariants.{Delete}
-use Rattle.ep_choice.proofs.GuardedLemmas.{is_positive}
 use Rattle.ep_choice.specs.Lost.{deleted_home, dying_homes, guard_home, guard_homes, has_guards, may_guard, with_home}
-use Rattle.ep_climb.proofs.WalkLemmas.{not_grown, reaches_none, reaches_one}
-use Rattle.ep_climb.specs.Reach.{IsGrown, Reaches}
+use Rattle.ep_climb.proofs.WalkLemmas.{reaches_none, reaches_one, reaches_same}
+use Rattle.ep_climb.specs.Reach.{Reaches}
 use Rattle.ep_interest.specs.Exclusive.{is_exclusive}
 use Rattle.ep_interest.specs.Registrations.{IsSound, Registrations, entry_found, entry_under, id_of, ids, is_on}
 use Rattle.ep_interest.specs.declared.entry.Entry.{Entry}
-use Rattle.ep_law.proofs.ListLemmas.{all_member, first_of_and}
-use Rattle.ep_law.proofs.TestLemmas.{from_test, same_nat, same_test}
+use Rattle.ep_law.proofs.ListLemmas.{all_member}
 use Rattle.ep_law.specs.Laws.{Member}
 use Rattle.ep_machine.specs.Files.{is_live}
 use Rattle.ep_machine.specs.Lists.{is_among}
-use Rattle.ep_ready.specs.Walk.{Walk}
+use Rattle.ep_walk.specs.Walk.{Walk}
 use Rattle.ep_table.specs.Value.{Seen, Sound, number_under}
-
--- Once some were noted, with those that are still to be.
-pub record Notes (f left : ℕ → Bool) (old new : Walk) : Type 0 where
-  pub room : new.room ≡ old.room
-  pub grown : IsGrown old.reached new.reached
-  pub each : (i : ℕ) → (is_among new.reached i || left i) ≡ (is_among old.reached i || f i)
-
-pub notes_begin : (f left : ℕ → Bool) (w : Walk) → ((i : ℕ) → left i ≡ f i) → Notes f left w w
-notes_begin f left w same = record { room = refl; grown = not_grown w.reached; each = λ i. ap (λ (t : Bool). is_among w.reached i || t) (same i) }
-
-pub notes_more : (f g left : ℕ → Bool) (old mid new : Walk) → Reaches g mid new → Notes f (λ i. g i || left i) old mid → Notes f left old new
-notes_more f g left old mid new a h = record {
-  room = a.room ∙ h.room;
-  grown = (h.grown.0 ++ a.grown.0, a.grown.1 ∙ (ap (λ (ks : List ℕ). ks ++ a.grown.0) h.grown.1 ∙ append_assoc old.reached h.grown.0 a.grown.0));
-  each = λ i. ap (λ (t : Bool). t || left i) (a.each i) ∙ (or_assoc (is_among mid.reached i) (g i) (left i) ∙ h.each i);
-}
-
-pub notes_end : (f left : ℕ → Bool) (old new : Walk) → ((i : ℕ) → left i ≡ false) → Notes f left old new → Reaches f old new
-notes_end f left old new none h = record {
-  room = h.room;
-  grown = h.grown;
-  each = λ i. sym (or-false (is_among new.reached i)) ∙ (ap (λ (t : Bool). is_among new.reached i || t) (sym (none i)) ∙ h.each i);
-}
-
-reaches_same : (f g : ℕ → Bool) (old new : Walk) → ((i : ℕ) → f i ≡ g i) → Reaches f old new → Reaches g old new
-reaches_same f g old new same a = record { room = a.room; grown = a.grown; each = λ i. a.each i ∙ ap (λ (t : Bool). is_among old.reached i || t) (same i) }
 
 -- The instance of one registration.
 abbrev pub is_home : Option DescId → ℕ → Bool
 is_home None k = false
 is_home (Some d) k = d.0 == k
 
-turned : (a b : ℕ) → (a == b) ≡ (b == a)
-turned a b = same_bools (a == b) (b == a) (λ t. same_test b a (sym (from_test a b t))) (λ t. same_test a b (sym (from_test b a t)))
-
 pub reaches_home : (o : Option DescId) (w new : Walk) → new ≡ with_home o w → Reaches (is_home o) w new
 reaches_home None w new is = subst (Reaches (λ i. false) w) (sym is) (reaches_none w)
-reaches_home (Some d) w new is = reaches_same (λ i. i == d.0) (λ i. d.0 == i) w new (λ i. turned i d.0) (reaches_one w d.0 new is)
+reaches_home (Some d) w new is = reaches_same (λ i. i == d.0) (λ i. d.0 == i) w new (λ i. test_turned i d.0) (reaches_one w d.0 new is)
 
 -- The instances of registrations, by their keys.
 abbrev pub homes_of : Seen → Registrations → List EntryId → ℕ → Bool
@@ -124,11 +93,8 @@ dying_keys v sound [] within = ([], refl)
 dying_keys v sound (d ∷ ds) within =
     let here = within d (ap (λ (b : Bool). b || is_among ds d) (same_nat d)) in
     let key = sound.keyed d (first_of_and (is_live v.files d) _ (sym (sound.dying d) ∙ here)) in
-    let rest = dying_keys v sound ds (λ e t. within e (later (e == d) (is_among ds e) t)) in
-    (key.0 ∷ rest.0, λ i. key.1 i ∷ rest.1 i) where
-      later : (a b : Bool) → b ≡ true → (a || b) ≡ true
-      later true b t = refl
-      later false b t = t
+    let rest = dying_keys v sound ds (λ e t. within e (or_right (e == d) (is_among ds e) t)) in
+    (key.0 ∷ rest.0, λ i. key.1 i ∷ rest.1 i)
 
 pub none_dying : (p : Parts) (ks : List DescId) (w : Walk) → has_guards p.interest ≡ false → Reaches (dying_homes p ks) w w
 none_dying p ks w none =

@@ -1,9 +1,7 @@
 -- Registrations that differ in what they pass on alone.
 use Rattle.std.proofs.Common.{◌≡◌, ◌∙◌, ◌<◌, ◌≤◌, ◌++◌, ◌==◌, ◌&&◌, ◌||◌, All, Bool, IsSome, List, [], ◌∷◌, None, Option, Some, ap, arith, cond, false, filter, inl, inr, is_some, length, map, not, refl, subst, sym, true, ℕ, slice_index_or, unwrap_or}
-use Rattle.std.proofs.Math.Bool.{or_assoc}
 use Rattle.std.specs.List.{list_any}
-use Rattle.std.proofs.lemmas.Bool.{false≢true}
-use Rattle.ep_calls.proofs.FindLemmas.{same_bools}
+use Rattle.std.proofs.lemmas.Bool.{false≢true, or_parts}
 use Rattle.ep_calls.specs.Parking.{ready_key}
 use Rattle.ep_calls.specs.Readiness.{readiness, watches_of}
 use Rattle.ep_calls.specs.Stands.{number_at, waiters_at, watch_at}
@@ -11,9 +9,7 @@ use Rattle.ep_choice.specs.Guarded.{guarded_key}
 use Rattle.ep_choice.specs.Lost.{AreAbove, is_loose}
 use Rattle.ep_climb.proofs.MarkLemmas.{lives_where, ready_in, turn_both, with_parked}
 use Rattle.ep_climb.specs.Mark.{attended}
-use Rattle.ep_law.proofs.ListLemmas.{among, among_member, filtered_member, filtered_passes, first_of_and, member_filter, second_of_and}
-use Rattle.ep_law.proofs.NarrowLemmas.{either_or}
-use Rattle.ep_law.proofs.TestLemmas.{neither, or_left, or_right}
+use Rattle.ep_law.proofs.ListLemmas.{among, among_member, filtered_member, filtered_passes, member_filter}
 use Rattle.ep_machine.specs.Lists.{is_among}
 use Rattle.ep_machine.specs.Marks.{marked_by}
 use Rattle.ep_machine.specs.State.{Waiter}
@@ -26,6 +22,8 @@ use Rattle.ep_view.specs.KernelView.{KernelWatch, reached_now, ready_now}
 use Rattle.ep_view.specs.Marking.{choice_at, guarded_now, has_number, is_guard, passing_if}
 use Rattle.std.specs.Option.{option_map}
 use Rattle.std.proofs.lemmas.List.Elements.{All-cons, All-head, All-nil, All-tail}
+use Rattle.ep_facts.proofs.BoolFacts.{first_of_and, or_cases, or_left, or_right, same_bools, second_of_and}
+use Rattle.ep_facts.proofs.AmongFacts.{among_append}
 use Rattle.ep_base.specs.declared.ids.DescId.{DescId}
 use Rattle.ep_base.specs.declared.ids.EntryId.{EntryId}
 use Rattle.ep_calls.specs.Climb.{is_nested_key}
@@ -40,7 +38,7 @@ use Rattle.ep_climb.specs.Reach.{AreReached, AreRoomy}
 use Rattle.ep_interest.specs.Exclusive.{is_exclusive, kept_passing, stops}
 use Rattle.ep_interest.specs.Registrations.{Registrations, entry_found, entry_under, number_under as entry_number, settled}
 use Rattle.ep_interest.specs.declared.entry.Entry.{Entry}
-use Rattle.ep_ready.specs.Walk.{Walk}
+use Rattle.ep_walk.specs.Walk.{Walk}
 use Rattle.ep_table.specs.Value.{Seen, number_under}
 
 module _ (old new : Registrations) (entries : map settled new.entries ≡ map settled old.entries) (keys : new.keys ≡ old.keys) where
@@ -127,7 +125,7 @@ none_exclusive (x ∷ xs) h = by (is_exclusive x) refl (none_exclusive xs) where
 unnarrowed : (keys : List (Option ℕ)) (kept : KernelWatch → Bool) (xs : List Entry) → list_any is_exclusive xs ≡ false → map (λ w. passing_if (not (is_guard w) || kept w) w) (map (watch_at keys) xs) ≡ map (watch_at keys) xs
 unnarrowed keys kept [] h = refl
 unnarrowed keys kept (x ∷ xs) h =
-    let none = neither (is_exclusive x) (list_any is_exclusive xs) h in
+    let none = or_parts (is_exclusive x) (list_any is_exclusive xs) h in
     let w = watch_at keys x in
     let one : passing_if (not (is_guard w) || kept w) w ≡ w = ap (λ (b : Bool). passing_if (not b || kept w) w) none.0 in
     let rest = unnarrowed keys kept xs none.1 in
@@ -146,9 +144,6 @@ none_narrowed n p q is none =
     })
 
 -- Who is marked.
-among_both : (xs ys : List ℕ) (k : ℕ) → is_among (xs ++ ys) k ≡ (is_among xs k || is_among ys k)
-among_both [] ys k = refl
-among_both (x ∷ xs) ys k = ap (λ (b : Bool). k == x || b) (among_both xs ys k) ∙ sym (or_assoc (k == x) (is_among xs k) (is_among ys k))
 
 waits_due : (now : ℕ) (us : List Waiter) (e : ℕ) → waits_at (map (marked_if_due now) us) e ≡ waits_at us e
 waits_due now [] e = refl
@@ -186,13 +181,13 @@ module _ (n : ℕ) (p b : Parts) (coherent : AreCoherent p) (narrowed : IsNarrow
         ∙ ap (λ (xs : List KernelWatch). is_some (number_under p.tables (record { 0 = e })) && reached_now p.tables.files n xs (number_in e)) narrowed.watches
 
     woken_here : (e : ℕ) → is_some (number_under p.tables (record { 0 = e })) ≡ true → woken_key n p attend e ≡ true → is_among here e ≡ true
-    woken_here e lives h = among_both rs (attended attend) e ∙ elim (either_or (reaches e) (is_among (attended attend) e) h) [
+    woken_here e lives h = among_append rs (attended attend) e ∙ elim (or_cases (reaches e) (is_among (attended attend) e) h) [
       | inl r ↦ or_left (is_among rs e) (is_among (attended attend) e) (told e ∙ (λ i. lives i && r i))
       | inr a ↦ or_right (is_among rs e) (is_among (attended attend) e) a
     ]
 
     here_woken : (e : ℕ) → is_among here e ≡ true → woken_key n p attend e ≡ true
-    here_woken e h = elim (either_or (is_among rs e) (is_among (attended attend) e) (sym (among_both rs (attended attend) e) ∙ h)) [
+    here_woken e h = elim (or_cases (is_among rs e) (is_among (attended attend) e) (sym (among_append rs (attended attend) e) ∙ h)) [
       | inl r ↦ or_left (reaches e) (is_among (attended attend) e) (second_of_and (is_some (number_under p.tables (record { 0 = e }))) (reaches e) (sym (told e) ∙ r))
       | inr a ↦ or_right (reaches e) (is_among (attended attend) e) a
     ]
@@ -205,17 +200,17 @@ module _ (n : ℕ) (p b : Parts) (coherent : AreCoherent p) (narrowed : IsNarrow
           let at : waits_at p.parked e ≡ true = sym (waits_due p.clock p.parked e) ∙ waits in
           let lives = lives_where p.tables p.parked e coherent.placed at in
           let one : woken_key n p attend e ≡ true → is_among (first ++ second) e ≡ true =
-          λ w. among_both first second e ∙ or_left (is_among first e) (is_among second e) (among e first (member_filter (ready_in p) e here (among_member here e (woken_here e lives w)) ready)) in
-          elim (either_or (not (guarded_key p.tables p.interest e)) (woken_key n p attend e) (second_of_and (ready_in p e) (not (guarded_key p.tables p.interest e) || woken_key n p attend e) h)) [
+          λ w. among_append first second e ∙ or_left (is_among first e) (is_among second e) (among e first (member_filter (ready_in p) e here (among_member here e (woken_here e lives w)) ready)) in
+          elim (or_cases (not (guarded_key p.tables p.interest e)) (woken_key n p attend e) (second_of_and (ready_in p e) (not (guarded_key p.tables p.interest e) || woken_key n p attend e) h)) [
             | inr w ↦ one w
             | inl f ↦ elim (looked e at none h) [
               | inl w ↦ one w
-              | inr l ↦ among_both first second e ∙ or_right (is_among first e) (is_among second e) (among e second (member_filter (is_loose p) e ks (among_member ks e ((above e).1 l)) (λ i. ready i && f i)))
+              | inr l ↦ among_append first second e ∙ or_right (is_among first e) (is_among second e) (among e second (member_filter (is_loose p) e ks (among_member ks e ((above e).1 l)) (λ i. ready i && f i)))
             ]
           ]
 
       from : is_among (first ++ second) e ≡ true → gets e ≡ true
-      from h = elim (either_or (is_among first e) (is_among second e) (sym (among_both first second e) ∙ h)) [
+      from h = elim (or_cases (is_among first e) (is_among second e) (sym (among_append first second e) ∙ h)) [
         | inl a ↦
             let m = among_member first e a in
             let ready = filtered_passes (ready_in p) here e m in

@@ -5,6 +5,9 @@ use Rattle.std.specs.Option.{option_map}
 use Rattle.std.proofs.lemmas.Bool.{cases_Bool, false≢true}
 use Rattle.std.proofs.lemmas.Bool.Decides.{nat_tests}
 use Rattle.std.proofs.lemmas.List.Elements.{All-cons, All-head, All-nil, All-tail}
+use Rattle.std.proofs.Math.Bool.{or-false}
+use Rattle.ep_facts.proofs.NatFacts.{from_test, same_nat, zero_of}
+use Rattle.ep_facts.proofs.BoolFacts.{or_assoc}
 use Rattle.ep_base.specs.declared.ids.DescId.{DescId}
 use Rattle.ep_calls.proofs.KeyLemmas.{same_keys}
 use Rattle.ep_calls.specs.Climb.{is_nested_key}
@@ -16,11 +19,10 @@ use Rattle.ep_climb.specs.Reach.{AreRoomy}
 use Rattle.ep_interest.specs.Exclusive.{is_exclusive, is_number, kept_passing}
 use Rattle.ep_interest.specs.Registrations.{Registrations, entry_found, is_on, number_under as entry_number, numbered, settled}
 use Rattle.ep_interest.specs.declared.entry.Entry.{Entry}
-use Rattle.ep_law.proofs.TestLemmas.{from_test, same_nat}
 use Rattle.ep_law.specs.Laws.{Member}
 use Rattle.ep_machine.specs.Lists.{is_among}
 use Rattle.ep_machine.specs.State.{Waiter}
-use Rattle.ep_ready.specs.Walk.{Walk}
+use Rattle.ep_walk.specs.Walk.{Walk}
 use Rattle.ep_table.specs.Value.{Seen, Sound, number_of, number_under}
 use Rattle.ep_view.specs.KernelView.{KernelWatch, any_within, ready_now, shows}
 use Rattle.ep_view.specs.Marking.{above_now, choice_at, guarded_now, guards, has_number, is_awaited_by, is_candidate, keeps_passing, lets_up, narrowed_now, passing_if}
@@ -259,14 +261,8 @@ module _ (p : Parts) (n : ℕ) (sound : Sound p.tables) (positive : nat_lt 0 n �
     same (x ∷ xs) = ap (λ (ys : List Entry). x ∷ ys) (same xs)
 
   among_end : (ds : List ℕ) (d k : ℕ) → is_among (ds ++ d ∷ []) k ≡ (is_among ds k || (k == d))
-  among_end [] d k = last (k == d) where
-    last : (b : Bool) → (b || false) ≡ b
-    last true = refl
-    last false = refl
-  among_end (c ∷ ds) d k = ap (λ (b : Bool). k == c || b) (among_end ds d k) ∙ group (k == c) (is_among ds k) (k == d) where
-    group : (a b c : Bool) → (a || (b || c)) ≡ ((a || b) || c)
-    group true b c = refl
-    group false b c = refl
+  among_end [] d k = or-false (k == d)
+  among_end (c ∷ ds) d k = ap (λ (b : Bool). k == c || b) (among_end ds d k) ∙ or_assoc (k == c) (is_among ds k) (k == d)
 
   one_more : (a t g h k : Bool) (x : Entry) → (t ≡ true → k ≡ h) → cond (t && g && not k) (idle (cond (a && (g && not h)) (idle x) x)) (cond (a && (g && not h)) (idle x) x) ≡ cond ((a || t) && (g && not h)) (idle x) x
   one_more true true true true k x e = ap (λ (b : Bool). cond (not b) (idle x) x) (e refl)
@@ -332,9 +328,6 @@ module _ (p : Parts) (n : ℕ) (sound : Sound p.tables) (positive : nat_lt 0 n �
     by true = refl
     by false = refl
   stopped false h k x e = refl
-
-  zero_of : (m : ℕ) → nat_lt 0 m ≡ false → m ≡ 0
-  zero_of m h = grind (arith, nat_tests, h)
 
   -- one that passes nothing on stays as it is
   unpassed : (b : Bool) (x : Entry) → x.passes_in ≡ 0 → watch_at v.keys x ≡ passing_if b (watch_at v.keys x)

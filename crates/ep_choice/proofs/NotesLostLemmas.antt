@@ -3,7 +3,10 @@ use Rattle.std.proofs.Common.{◌≡◌, ◌<◌, ◌∙◌, ◌==◌, ◌&&◌,
 use Rattle.std.specs.List.{list_any}
 use Rattle.std.specs.Prelude.{MatchBool}
 use Rattle.std.proofs.lemmas.List.Elements.{All-from_recursion}
-use Rattle.std.proofs.lemmas.Bool.{cases_Bool, false≢true}
+use Rattle.std.proofs.lemmas.Bool.{cases_Bool, false_from_ne_true, false≢true}
+use Rattle.ep_facts.proofs.NatFacts.{from_test, same_nat, same_test}
+use Rattle.ep_facts.proofs.ListFacts.{head_same, tail_same}
+use Rattle.ep_facts.proofs.BoolFacts.{from_not_false, or_cases, or_left, or_right}
 use Rattle.ep_base.specs.declared.answer.Answer.{Answer}
 use Rattle.ep_base.specs.declared.ids.DescId.{DescId}
 use Rattle.ep_base.specs.declared.ids.EntryId.{EntryId}
@@ -32,17 +35,15 @@ use Rattle.ep_interest.specs.Exclusive.{is_exclusive}
 use Rattle.ep_interest.specs.Registrations.{IsSound, Registrations, entry_under, is_on, is_other, modified, number_under as entry_number, numbered, raised_on}
 use Rattle.ep_interest.specs.declared.entry.Entry.{Entry}
 use Rattle.ep_law.proofs.GraphLemmas.{member_of_map}
-use Rattle.ep_law.proofs.ListLemmas.{all_member, any_member, member_filter, member_map, not_true}
+use Rattle.ep_law.proofs.ListLemmas.{all_member, any_has, any_member, member_filter, member_map}
 use Rattle.ep_law.proofs.NamedLivesLemmas.{places_left}
-use Rattle.ep_law.proofs.NarrowLemmas.{either_or}
-use Rattle.ep_law.proofs.TestLemmas.{from_test, or_left, or_right, same_nat, same_test}
 use Rattle.ep_law.specs.Laws.{Member}
 use Rattle.ep_machine.specs.Bits.{IN, at_end}
 use Rattle.ep_machine.specs.Deaths.{die_all}
 use Rattle.ep_machine.specs.Files.{Files, Place, place_of, side_of}
 use Rattle.ep_machine.specs.Lists.{are_distinct, is_among}
 use Rattle.ep_nest.proofs.ElementLemmas.{Contains-cons, Contains-cons_cases, Contains-head, Contains-nil}
-use Rattle.ep_ready.specs.Walk.{Walk}
+use Rattle.ep_walk.specs.Walk.{Walk}
 use Rattle.ep_table.specs.Closing.{opposite}
 use Rattle.ep_table.specs.Live.{live_ids}
 use Rattle.ep_table.specs.Value.{Seen, Sound, number_of, number_under}
@@ -51,11 +52,6 @@ use Rattle.ep_view.specs.KernelView.{KernelWatch, freshened}
 member_there : (xs : List Entry) (x : Entry) → Contains xs x → Member x xs
 member_there [] x h = Contains-nil x h
 member_there (y ∷ ys) x h = elim (Contains-cons_cases y ys x h) [ inl e ↦ inl (sym e) | inr later ↦ inr (member_there ys x later) ]
-
-any_there : (f : Entry → Bool) (xs : List Entry) (x : Entry) → Member x xs → f x ≡ true → list_any f xs ≡ true
-any_there f [] x m h = absurd m
-any_there f (y ∷ ys) x (inl e) h = or_left (f y) (list_any f ys) (ap f (sym e) ∙ h)
-any_there f (y ∷ ys) x (inr m) h = or_right (f y) (list_any f ys) (any_there f ys x m h)
 
 any_desc : (f : DescId → Bool) (xs : List DescId) (x : DescId) → Member x xs → f x ≡ true → list_any f xs ≡ true
 any_desc f [] x m h = absurd m
@@ -160,7 +156,7 @@ placed x = record x { tag = 0; armed = true; fresh = true; reported_in = 0; pass
 
 pub guards_placed : (old new : Parts) → new.tables ≡ old.tables → map placed new.interest.entries ≡ map placed old.interest.entries → GuardsStay old new
 guards_placed old new tables same = record {
-  any = λ t. let x = any_member is_exclusive old.interest.entries t in let y = left x.0 x.1 in any_there is_exclusive new.interest.entries y.0 y.1 (ap is_exclusive y.2 ∙ x.2);
+  any = λ t. let x = any_member is_exclusive old.interest.entries t in let y = left x.0 x.1 in any_has is_exclusive new.interest.entries y.0 y.1 (ap is_exclusive y.2 ∙ x.2);
   each = λ x m may. let y = left x m in (y.0, y.1, ap (λ (z : Entry). z.number) y.2, ap (λ (z : Entry). z.instance) y.2, (λ i. may_guard (tables i) (y.2 i)) ∙ may);
 } where
   left : (x : Entry) → Member x old.interest.entries → (y : Entry) × Member y new.interest.entries × (placed y ≡ placed x)
@@ -210,10 +206,6 @@ notes_same operation found old new same w =
 modified_number : (k : ℕ) (mask : Mask) (tag : ℕ) (x : Entry) → (modified k mask tag x).number ≡ x.number
 modified_number k mask tag x = elim (x.number == k) as (λ b. (cond b (record x { mask = mask; tag = tag; armed = true; fresh = true }) x).number ≡ x.number) [ true ↦ refl | false ↦ refl ]
 
-not_false : (b : Bool) → not b ≡ false → b ≡ true
-not_false true h = refl
-not_false false h = absurd (false≢true (sym h))
-
 -- what a DEL takes
 module _ (old new : Parts) (sound : IsSound old.interest) (id : EntryId) (entries : new.interest.entries ≡ filter (is_other (unwrap_or (entry_number old.interest id) 0)) old.interest.entries) where
   -- what is gone has the number that goes
@@ -223,7 +215,7 @@ module _ (old new : Parts) (sound : IsSound old.interest) (id : EntryId) (entrie
         let left : Member x (filter (is_other k) old.interest.entries) = member_filter (is_other k) x old.interest.entries m other in
         let there : Member x new.interest.entries = subst (Member x) (sym (entries ∙ ap (λ (n : ℕ). filter (is_other n) old.interest.entries) is)) left in
         absurd (none_there _ gone (has_number new.interest.entries x x.number there refl))
-    | inr same ↦ from_test x.number k (not_false (x.number == k) same)
+    | inr same ↦ from_test x.number k (from_not_false (x.number == k) same)
   ]
 
   home_is : (o : Option ℕ) → entry_number old.interest id ≡ o → (x : Entry) → Member x old.interest.entries → numbered new.interest.entries x.number ≡ None → entry_under old.interest id ≡ Some x
@@ -265,11 +257,6 @@ notes_controlled answer operation found named args old new sound h w = of (is_do
   of false same = notes_same operation found old new same w
 
 -- A burial.
-head_is : {X : Type 0} (x y : X) (xs ys : List X) → x ∷ xs ≡ y ∷ ys → x ≡ y
-head_is x y xs ys e = cc
-
-tail_is : {X : Type 0} (x y : X) (xs ys : List X) → x ∷ xs ≡ y ∷ ys → xs ≡ ys
-tail_is x y xs ys e = cc
 
 touched : (a b : Bool) → (not a && not b) ≡ false → (a ≡ true) ⊎ (b ≡ true)
 touched true b h = inl refl
@@ -318,9 +305,9 @@ module _ (n : ℕ) (old new : Parts) (burial : Burial n old.tables old.interest 
     key_of : (ds : List ℕ) (descs : List DescId) → map (number_under v) descs ≡ map (λ d. Some d) ds → (k : ℕ) → is_among ds k ≡ true → (d : DescId) × Member d descs × (number_under v d ≡ Some k)
     key_of [] descs e k t = absurd (false≢true t)
     key_of (d ∷ ds) [] e k t = absurd cc
-    key_of (d ∷ ds) (desc ∷ descs) e k t = elim (either_or (k == d) (is_among ds k) t) [
-      | inl here ↦ (desc, inl refl, head_is _ _ _ _ e ∙ ap (λ (m : ℕ). Some m) (sym (from_test k d here)))
-      | inr later ↦ let rest = key_of ds descs (tail_is _ _ _ _ e) k later in (rest.0, inr rest.1, rest.2)
+    key_of (d ∷ ds) (desc ∷ descs) e k t = elim (or_cases (k == d) (is_among ds k) t) [
+      | inl here ↦ (desc, inl refl, head_same _ _ _ _ e ∙ ap (λ (m : ℕ). Some m) (sym (from_test k d here)))
+      | inr later ↦ let rest = key_of ds descs (tail_same _ _ _ _ e) k later in (rest.0, inr rest.1, rest.2)
     ]
 
     target_dies : (x : Entry) → Member x old.interest.entries → has_guards old.interest ≡ true → may_guard v x ≡ true → is_among dead (number_at v.keys x.desc) ≡ true → dying_homes old dying x.instance.0 ≡ true
@@ -330,14 +317,14 @@ module _ (n : ℕ) (old new : Parts) (burial : Burial n old.tables old.interest 
         let own = under_key v.keys x.desc link.desc in
         let same : x.desc.0 ≡ key.0.0 = burial.sound.one x.desc key.0 own.number own.is (key.2 ∙ ap (λ (o : Option ℕ). Some (unwrap_or o 0)) own.is) in
         let on : (is_on key.0 x && may_guard v x && x.instance.0 == x.instance.0) ≡ true = (λ i. same_test x.desc.0 key.0.0 same i && may i && same_nat x.instance.0 i) in
-        let home = any_there (λ y. is_on key.0 y && may_guard v y && y.instance.0 == x.instance.0) old.interest.entries x m on in
+        let home = any_has (λ y. is_on key.0 y && may_guard v y && y.instance.0 == x.instance.0) old.interest.entries x m on in
         (λ i. guards i && any_desc (λ desc. guard_homes v old.interest desc x.instance.0) dying key.0 key.1 home i)
 
     pub notes_buried : (was is : Walk) → Reaches (dying_homes old dying) was is → NotesLost old new was.reached is.reached
     notes_buried was is reaches = record {
       noted = λ guards x there may gone lives.
           let m = member_there old.interest.entries x there in
-          let goes = touched _ _ (not_true _ (λ t. none_there _ gone (untouched_left x m t))) in
+          let goes = touched _ _ (false_from_ne_true _ (λ t. none_there _ gone (untouched_left x m t))) in
           elim goes [
             | inl instance ↦ absurd (left_lives x.instance lives instance)
             | inr desc ↦ reaches.each x.instance.0 ∙ or_right (is_among was.reached x.instance.0) _ (target_dies x m guards may desc)

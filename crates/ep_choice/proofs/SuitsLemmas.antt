@@ -2,6 +2,9 @@
 use Rattle.std.proofs.Common.{◌≡◌, ◌<◌, ◌≤◌, ◌∙◌, ◌==◌, ◌&&◌, ℕ, Bool, true, false, IsSome, List, [], ◌∷◌, None, Option, Some, ap, arith, cond, filter, inl, inr, map, refl, slice_index_or, subst, sym}
 use Rattle.std.specs.Option.{option_map}
 use Rattle.std.proofs.lemmas.Bool.{false≢true}
+use Rattle.ep_facts.proofs.NatFacts.{from_test, same_test}
+use Rattle.ep_facts.proofs.BoolFacts.{or_cases, second_of_and}
+use Rattle.ep_facts.proofs.OptionFacts.{none_is_some}
 use Rattle.ep_base.specs.declared.ids.DescId.{DescId}
 use Rattle.ep_base.specs.declared.ids.EntryId.{EntryId}
 use Rattle.ep_base.specs.declared.mask.Mask.{Mask}
@@ -28,15 +31,13 @@ use Rattle.ep_interest.specs.Exclusive.{is_exclusive}
 use Rattle.ep_interest.specs.Registrations.{IsSound, Registrations, entry_found, entry_under, is_on, number_under as entry_number, raised_on}
 use Rattle.ep_interest.specs.declared.entry.Entry.{Entry}
 use Rattle.ep_law.proofs.GraphLemmas.{member_of_map}
-use Rattle.ep_law.proofs.ListLemmas.{any_member, filtered_member, member_map, second_of_and}
-use Rattle.ep_law.proofs.NarrowLemmas.{either_or}
-use Rattle.ep_law.proofs.TestLemmas.{from_test, same_test}
+use Rattle.ep_law.proofs.ListLemmas.{any_member, filtered_member, member_map}
 use Rattle.ep_law.specs.Laws.{Member}
 use Rattle.ep_machine.specs.Bits.{EXCLUSIVE, IN, at_end, has_bit}
 use Rattle.ep_machine.specs.Deaths.{die_all}
 use Rattle.ep_machine.specs.Files.{Place, side_of}
 use Rattle.ep_machine.specs.Lists.{is_among}
-use Rattle.ep_ready.specs.Walk.{Walk}
+use Rattle.ep_walk.specs.Walk.{Walk}
 use Rattle.ep_table.specs.Closing.{opposite}
 use Rattle.ep_table.specs.Live.{live_ids}
 use Rattle.ep_table.specs.Value.{Seen, number_of as desc_number_of}
@@ -127,8 +128,6 @@ were_risen n v old new rises keys =
     were_mapped (risen (reached_now v.files n (map (watch_at v.keys) old.entries)) v) (record { number = λ x. refl; instance = λ x. refl; desc = λ x. refl; mask = λ x. refl }) old new rises.entries keys
 
 -- What no death takes.
-no_number : (n : ℕ) (o : Option ℕ) → o ≡ None → o ≡ Some n → ⊥
-no_number n o a b = absurd (let e : None ≡ Some n = sym a ∙ b in cc)
 
 module _ (n : ℕ) (v w : Seen) (r q : Registrations) (burial : Burial n v r w q) (ids : KeepsIds r q) (was : IsSound r) (linked : AreLinked v r) where
   -- keys are what their numbers say
@@ -147,7 +146,7 @@ module _ (n : ℕ) (v w : Seen) (r q : Registrations) (burial : Burial n v r w q
       let z = member_of_map (watch_at v.keys) r.entries u.0 (filtered_member stays watched u.0 u.1) in
       let x = z.0 in
       let number : x.number ≡ y.number = ap (λ (k : KernelWatch). k.number) z.2 ∙ ap (λ (k : KernelWatch). k.number) u.2 in
-      let before : entry_number r id ≡ Some y.number = elim (ids id) [ inl none ↦ absurd (no_number y.number _ none (number_of q id y at)) | inr same ↦ sym same ∙ number_of q id y at ] in
+      let before : entry_number r id ≡ Some y.number = elim (ids id) [ inl none ↦ absurd (none_is_some y.number _ none (number_of q id y at)) | inr same ↦ sym same ∙ number_of q id y at ] in
       let there : entry_under r id ≡ Some x = ap (entry_found r.entries) (before ∙ ap (λ (k : ℕ). Some k) (sym number)) ∙ own r was x z.1 in
       let old = holds_under (IsLinked v.keys) r id x linked there in
       let new = holds_under (IsLinked w.keys) q id y burial.buries.linked at in
@@ -185,7 +184,7 @@ room_for ks ls w u same more h i t = let lt = h i (ap (λ (xs : List ℕ). is_am
 -- after a DEL
 pub room_deleted : (operation : Operation) (found : Option EntryId) (p : Parts) (w u : Walk) → AreRoomy p.interest u → HaveRoom w.reached u → HaveRoom (with_home (deleted_home operation found p) w).reached u
 room_deleted operation found p w u roomy h i t =
-    elim (either_or (is_among w.reached i) (is_home o i) (sym ((reaches_home o w (with_home o w) refl).each i) ∙ t)) [ inl before ↦ h i before | inr home ↦ at operation found home ] where
+    elim (or_cases (is_among w.reached i) (is_home o i) (sym ((reaches_home o w (with_home o w) refl).each i) ∙ t)) [ inl before ↦ h i before | inr home ↦ at operation found home ] where
       o : Option DescId
       o = deleted_home operation found p
 
@@ -208,7 +207,7 @@ room_deleted operation found p w u roomy h i t =
 -- and after deaths
 pub room_dying : (p : Parts) (dying : List DescId) (was is u : Walk) → IsSound p.interest → AreRoomy p.interest u → Reaches (dying_homes p dying) was is → HaveRoom was.reached u → HaveRoom is.reached u
 room_dying p dying was is u sound roomy reaches h i t =
-    elim (either_or (is_among was.reached i) (dying_homes p dying i) (sym (reaches.each i) ∙ t)) [
+    elim (or_cases (is_among was.reached i) (dying_homes p dying i) (sym (reaches.each i) ∙ t)) [
       | inl before ↦ h i before
       | inr home ↦
           let d = any_member (λ desc. guard_homes p.tables p.interest desc i) dying (second_of_and (has_guards p.interest) _ home) in

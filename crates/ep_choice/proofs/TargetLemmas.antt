@@ -3,6 +3,8 @@ use Rattle.std.proofs.Common.{◌≡◌, ◌∙◌, ◌+◌, ◌<◌, ◌==◌, 
 use Rattle.std.proofs.lemmas.Bool.{cases_Bool}
 use Rattle.std.proofs.lemmas.List.{take_more}
 use Rattle.std.proofs.lemmas.List.Recursion.{or_push}
+use Rattle.ep_facts.proofs.NatFacts.{from_test, same_test}
+use Rattle.ep_facts.proofs.BoolFacts.{or_cases, or_right}
 use Rattle.ep_base.specs.declared.ids.DescId.{DescId}
 use Rattle.ep_base.specs.declared.ids.EntryId.{EntryId}
 use Rattle.ep_choice.specs.Narrow.{AreTargets, exclusive_target, with_target}
@@ -11,10 +13,8 @@ use Rattle.ep_interest.specs.Exclusive.{is_exclusive}
 use Rattle.ep_interest.specs.Passes.{has_id}
 use Rattle.ep_interest.specs.Registrations.{Registrations, entry_under}
 use Rattle.ep_interest.specs.declared.entry.Entry.{Entry}
-use Rattle.ep_law.proofs.NarrowLemmas.{either_or}
-use Rattle.ep_law.proofs.TestLemmas.{from_test, or_right, same_test}
 use Rattle.ep_machine.specs.Lists.{is_among}
-use Rattle.ep_ready.specs.Walk.{Walk}
+use Rattle.ep_walk.specs.Walk.{Walk}
 
 -- an exclusive registration with this target
 target_from : (o : Option Entry) (d : DescId) → exclusive_target o ≡ Some d → (x : Entry) × (o ≡ Some x) × (is_exclusive x ≡ true) × (x.desc ≡ d)
@@ -43,7 +43,7 @@ gone_next r ids i z old mid new lt h is = by (exclusive_target (entry_under r id
   by None none same = record {
     room = ap (λ (w : Walk). w.room) same ∙ h.room;
     sound = subst (λ (w : Walk). AreTargets r w.reached) (sym same) h.sound;
-    complete = λ k x t under exclusive. elim (either_or (has_id (take i ids) k) (k == id.0) (sym (has_more k) ∙ t)) [
+    complete = λ k x t under exclusive. elim (or_cases (has_id (take i ids) k) (k == id.0) (sym (has_more k) ∙ t)) [
       | inl before ↦ subst (λ (w : Walk). is_among w.reached x.desc.0 ≡ true) (sym same) (h.complete k x before under exclusive)
       | inr here ↦
           let at : entry_under r id ≡ Some x = ap (λ (m : ℕ). entry_under r (record { 0 = m })) (sym (from_test k id.0 here)) ∙ under in
@@ -54,11 +54,11 @@ gone_next r ids i z old mid new lt h is = by (exclusive_target (entry_under r id
       let one = reaches_one mid d.0 new same in
       record {
         room = one.room ∙ h.room;
-        sound = λ k t. elim (either_or (is_among mid.reached k) (k == d.0) (sym (one.each k) ∙ t)) [
+        sound = λ k t. elim (or_cases (is_among mid.reached k) (k == d.0) (sym (one.each k) ∙ t)) [
           | inl before ↦ h.sound k before
           | inr here ↦ let x = target_from (entry_under r id) d some in (id, x.0, x.1, ap (λ (e : DescId). e.0) x.3 ∙ sym (from_test k d.0 here))
         ];
-        complete = λ k x t under exclusive. elim (either_or (has_id (take i ids) k) (k == id.0) (sym (has_more k) ∙ t)) [
+        complete = λ k x t under exclusive. elim (or_cases (has_id (take i ids) k) (k == id.0) (sym (has_more k) ∙ t)) [
           | inl before ↦ one.each x.desc.0 ∙ (λ j. h.complete k x before under exclusive j || x.desc.0 == d.0)
           | inr here ↦
               let at : entry_under r id ≡ Some x = ap (λ (m : ℕ). entry_under r (record { 0 = m })) (sym (from_test k id.0 here)) ∙ under in

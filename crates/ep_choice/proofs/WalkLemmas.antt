@@ -6,10 +6,10 @@ use Rattle.std.proofs.Math.Seq.{take-append_seam}
 use Rattle.std.proofs.lemmas.List.{take_more}
 use Rattle.std.proofs.lemmas.List.Recursion.{or_at, or_push}
 use Rattle.std.proofs.lemmas.Option.{get_or_from_slice_get}
+use Rattle.ep_facts.proofs.NatFacts.{from_test, same_nat}
 use Rattle.ep_climb.specs.Reach.{IsClosed, IsGrown}
-use Rattle.ep_law.proofs.TestLemmas.{from_test, same_nat}
 use Rattle.ep_machine.specs.Lists.{is_among}
-use Rattle.ep_ready.specs.Walk.{Walk, with_reached}
+use Rattle.ep_walk.specs.Walk.{Walk, with_reached}
 
 pub at_place : (ks : List ℕ) (i k : ℕ) → slice_get ks i ≡ Some k → get_or ks i 0 ≡ k
 at_place ks i k is = get_or_from_slice_get ks i k 0 is

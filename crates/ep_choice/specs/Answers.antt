@@ -6,7 +6,7 @@ use Rattle.ep_interest.specs.Registrations.{Registrations}
 use Rattle.ep_interest.specs.declared.entry.Entry.{Entry}
 use Rattle.ep_machine.specs.Lists.{is_among}
 use Rattle.ep_machine.specs.State.{Waiter}
-use Rattle.ep_ready.specs.Walk.{with_noted}
+use Rattle.ep_walk.specs.Walk.{with_noted}
 use Rattle.ep_table.specs.Value.{Seen}
 
 -- with the answer of an instance, if there is room for it

@@ -16,7 +16,7 @@ use Rattle.ep_interest.specs.declared.entry.Entry.{Entry}
 use Rattle.ep_machine.specs.Lists.{is_among}
 use Rattle.ep_machine.specs.State.{Waiter}
 use Rattle.ep_machine.specs.Waits.{is_marked_at, waits_at}
-use Rattle.ep_ready.specs.Walk.{Walk, with_reached}
+use Rattle.ep_walk.specs.Walk.{Walk, with_reached}
 use Rattle.ep_table.specs.Value.{Seen, number_of}
 use Rattle.ep_view.specs.Marking.{choice_at, finds_now}
 

@@ -17,7 +17,7 @@ use Rattle.ep_interest.specs.declared.entry.Entry.{Entry}
 use Rattle.ep_machine.specs.Lists.{is_among}
 use Rattle.ep_machine.specs.State.{Waiter}
 use Rattle.ep_park.specs.Waiters.{longest_marked}
-use Rattle.ep_ready.specs.Walk.{Walk, with_reached}
+use Rattle.ep_walk.specs.Walk.{Walk, with_reached}
 use Rattle.ep_table.specs.Value.{Seen, number_under}
 
 -- a registration that may guard its instance, or those above: an exclusive one, or one on an instance

@@ -16,7 +16,7 @@ use Rattle.ep_machine.specs.Lists.{is_among}
 use Rattle.ep_machine.specs.State.{Waiter}
 use Rattle.ep_machine.specs.Waits.{is_marked_at, marked_if_due, waits_at}
 use Rattle.ep_nest.specs.Links.{edges}
-use Rattle.ep_ready.specs.Walk.{Walk}
+use Rattle.ep_walk.specs.Walk.{Walk}
 use Rattle.ep_view.specs.KernelView.{KernelWatch, reached_now}
 use Rattle.ep_view.specs.Marking.{narrowed_now}
 

@@ -6,7 +6,7 @@ use Rattle.ep_interest.specs.Exclusive.{is_exclusive, kept_passing}
 use Rattle.ep_interest.specs.Registrations.{Registrations, entry_under}
 use Rattle.ep_interest.specs.declared.entry.Entry.{Entry}
 use Rattle.ep_machine.specs.Lists.{is_among}
-use Rattle.ep_ready.specs.Walk.{Walk, with_reached}
+use Rattle.ep_walk.specs.Walk.{Walk, with_reached}
 use Rattle.ep_table.specs.Value.{Seen}
 
 -- a walk has room for the target of each exclusive registration

@@ -9,7 +9,7 @@ use Rattle.ep_climb.specs.Reach.{AreRoomy}
 use Rattle.ep_interest.specs.Registrations.{Registrations}
 use Rattle.ep_machine.specs.Bits.{EXCLUSIVE, has_bit}
 use Rattle.ep_machine.specs.Lists.{is_among}
-use Rattle.ep_ready.specs.Walk.{Walk}
+use Rattle.ep_walk.specs.Walk.{Walk}
 
 -- there is room for the key and the target of each exclusive registration, and for the instance of any
 pub record Suits (r : Registrations) (c : Choice) : Type 0 where

@@ -3,7 +3,7 @@ ghost use Rattle.std.specs.Prelude.{◌≡◌, ◌<◌, ◌≤◌, [], OnOk};
 ghost use Rattle.ep_choice.specs.Answers.{KnowsNone, with_answer};
 
 use ep_base::{DescId, EntryId};
-use ep_ready::Walk;
+use ep_walk::Walk;
 use std::alloc::{AllocError, Global};
 
 /// The exclusive registrations on a target that pass something on, and which instances are known to find somebody, or

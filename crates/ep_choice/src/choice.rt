@@ -6,7 +6,7 @@ use crate::candidates::Candidates;
 use bitflags::Flags;
 use ep_base::{EntryId, Mask};
 use ep_calls::Named;
-use ep_ready::Walk;
+use ep_walk::Walk;
 use std::alloc::{AllocError, Global};
 
 /// What an event goes along that asks which of the exclusive registrations it wakes, and which instances have lost one.

@@ -10,9 +10,9 @@ ghost use Rattle.ep_table.specs.Value.{number_under};
 use crate::candidates::Candidates;
 use ep_base::{DescId, EntryId, EntryNumber, EventNumber};
 use ep_calls::Parts;
-use ep_climb::{Readiness, ascend};
+use ep_climb::{Along, Readiness, ascend};
 use ep_interest::{Entry, Interest};
-use ep_ready::Walk;
+use ep_walk::Walk;
 use std::alloc::Global;
 
 /// Whether an instance is ready and somebody waits there, and nobody who does is marked. Whether it is ready is asked
@@ -85,46 +85,40 @@ fn gather(interest: &Interest, candidates: &mut Walk<Global>, target: DescId, st
 
 /// Reaches the instance of a registration, and those above it to which IN goes on from there. What was reached before
 /// was asked in vain.
-fn climb_from(parts: &mut Parts, reached: &mut Walk<Global>, id: EntryId)
-    requires there { IsSome (number_of_entry parts.old.interest id) }
-    requires instances { HaveInstances parts.old }
-    requires room { AreRoomy parts.old.interest reached.old }
-    requires vain { IsVain parts.old reached.old.reached }
-    ensures parts { parts.new ≡ parts.old }
+fn climb_from(parts: &Parts, reached: &mut Walk<Global>, id: EntryId)
+    requires there { IsSome (number_of_entry parts.now.interest id) }
+    requires instances { HaveInstances parts.now }
+    requires room { AreRoomy parts.now.interest reached.old }
+    requires vain { IsVain parts.now reached.old.reached }
     ensures room { reached.new.room ≡ reached.old.room }
     ensures grown { IsGrown reached.old.reached reached.new.reached }
-    ensures closed { IsClosed (open_edges parts.old.interest parts.old.graph) reached.new.reached }
+    ensures closed { IsClosed (open_edges parts.now.interest parts.now.graph) reached.new.reached }
     ensures exact { list_any
-        (awaited_key parts.old.tables parts.old.clock parts.old.interest parts.old.parked)
+        (awaited_key parts.now.tables parts.now.clock parts.now.interest parts.now.parked)
         reached.new.reached
-        ≡ finds_key parts.old.tables parts.old.clock parts.old.interest parts.old.parked id.0 }
+        ≡ finds_key parts.now.tables parts.now.clock parts.now.interest parts.now.parked id.0 }
 {
     parts.known();
     parts.interest.known();
     parts.graph.known();
     let instance = parts.interest.entry(id).instance;
-    ascend(&parts.interest, &mut parts.graph, reached, instance);
+    let open = Along::Open(&parts.interest);
+    ascend(open, &parts.graph, reached, instance);
 }
 
 /// Asks from the instance of a registration upwards whether somebody is found. What was reached before was asked in
 /// vain, and so was what is reached then: all is forgotten if somebody is found.
-fn ask<R: Readiness>(
-    parts: &mut Parts,
-    ready: &mut R,
-    reached: &mut Walk<Global>,
-    id: EntryId,
-) -> bool
-    requires there { IsSome (number_of_entry parts.old.interest id) }
-    requires instances { HaveInstances parts.old }
-    requires room { AreRoomy parts.old.interest reached.old }
-    requires vain { IsVain parts.old reached.old.reached }
-    requires knows { R.knows ready.old parts.old.tables parts.old.clock parts.old.interest }
-    ensures parts { parts.new ≡ parts.old }
+fn ask<R: Readiness>(parts: &Parts, ready: &mut R, reached: &mut Walk<Global>, id: EntryId) -> bool
+    requires there { IsSome (number_of_entry parts.now.interest id) }
+    requires instances { HaveInstances parts.now }
+    requires room { AreRoomy parts.now.interest reached.old }
+    requires vain { IsVain parts.now reached.old.reached }
+    requires knows { R.knows ready.old parts.now.tables parts.now.clock parts.now.interest }
     ensures room { reached.new.room ≡ reached.old.room }
-    ensures vain { IsVain parts.old reached.new.reached }
-    ensures knows { R.knows ready.new parts.old.tables parts.old.clock parts.old.interest }
+    ensures vain { IsVain parts.now reached.new.reached }
+    ensures knows { R.knows ready.new parts.now.tables parts.now.clock parts.now.interest }
     ensures exact { result
-        ≡ finds_key parts.old.tables parts.old.clock parts.old.interest parts.old.parked id.0 }
+        ≡ finds_key parts.now.tables parts.now.clock parts.now.interest parts.now.parked id.0 }
 {
     let asked = reached.count();
     climb_from(parts, reached, id);
@@ -138,28 +132,27 @@ fn ask<R: Readiness>(
 /// Whether a registration finds somebody. Its instance is asked if it did not answer yet in this event, and what it
 /// answers is noted.
 fn finds<R: Readiness>(
-    parts: &mut Parts,
+    parts: &Parts,
     ready: &mut R,
     reached: &mut Walk<Global>,
     candidates: &mut Candidates,
     id: EntryId,
 ) -> bool
-    requires there { IsSome (number_of_entry parts.old.interest id) }
-    requires instances { HaveInstances parts.old }
-    requires room { AreRoomy parts.old.interest reached.old }
-    requires vain { IsVain parts.old reached.old.reached }
-    requires answers { AreAnswers parts.old.tables parts.old.clock parts.old.interest
-        parts.old.parked candidates.old }
-    requires knows { R.knows ready.old parts.old.tables parts.old.clock parts.old.interest }
-    ensures parts { parts.new ≡ parts.old }
+    requires there { IsSome (number_of_entry parts.now.interest id) }
+    requires instances { HaveInstances parts.now }
+    requires room { AreRoomy parts.now.interest reached.old }
+    requires vain { IsVain parts.now reached.old.reached }
+    requires answers { AreAnswers parts.now.tables parts.now.clock parts.now.interest
+        parts.now.parked candidates.old }
+    requires knows { R.knows ready.old parts.now.tables parts.now.clock parts.now.interest }
     ensures room { reached.new.room ≡ reached.old.room }
     ensures keys { candidates.new.keys ≡ candidates.old.keys }
-    ensures vain { IsVain parts.old reached.new.reached }
-    ensures answers { AreAnswers parts.old.tables parts.old.clock parts.old.interest
-        parts.old.parked candidates.new }
-    ensures knows { R.knows ready.new parts.old.tables parts.old.clock parts.old.interest }
+    ensures vain { IsVain parts.now reached.new.reached }
+    ensures answers { AreAnswers parts.now.tables parts.now.clock parts.now.interest
+        parts.now.parked candidates.new }
+    ensures knows { R.knows ready.new parts.now.tables parts.now.clock parts.now.interest }
     ensures exact { result
-        ≡ finds_key parts.old.tables parts.old.clock parts.old.interest parts.old.parked id.0 }
+        ≡ finds_key parts.now.tables parts.now.clock parts.now.interest parts.now.parked id.0 }
 {
     parts.known();
     parts.interest.known();
@@ -180,31 +173,30 @@ fn finds<R: Readiness>(
 /// of them marked. It takes no memory. Its time grows with the registrations on the description, and with what is above
 /// the instances of those that pass something on. An instance that answered for another target of the event isn't asked
 /// again. What was reached before was asked in vain, and so was what is reached then.
-pub fn choose<R: Readiness>(
-    parts: &mut Parts,
+pub fn choose_exclusive<R: Readiness>(
+    parts: &Parts,
     ready: &mut R,
     reached: &mut Walk<Global>,
     candidates: &mut Candidates,
     target: DescId,
     step: EventNumber,
 ) -> Option<EntryNumber>
-    requires live { IsSome (number_under parts.old.tables target) }
-    requires instances { HaveInstances parts.old }
-    requires room { AreRoomy parts.old.interest reached.old }
-    requires vain { IsVain parts.old reached.old.reached }
-    requires keys { HasKeys parts.old.interest candidates.old.keys }
-    requires answers { AreAnswers parts.old.tables parts.old.clock parts.old.interest
-        parts.old.parked candidates.old }
-    requires knows { R.knows ready.old parts.old.tables parts.old.clock parts.old.interest }
-    ensures parts { parts.new ≡ parts.old }
+    requires live { IsSome (number_under parts.now.tables target) }
+    requires instances { HaveInstances parts.now }
+    requires room { AreRoomy parts.now.interest reached.old }
+    requires vain { IsVain parts.now reached.old.reached }
+    requires keys { HasKeys parts.now.interest candidates.old.keys }
+    requires answers { AreAnswers parts.now.tables parts.now.clock parts.now.interest
+        parts.now.parked candidates.old }
+    requires knows { R.knows ready.old parts.now.tables parts.now.clock parts.now.interest }
     ensures room { reached.new.room ≡ reached.old.room }
-    ensures vain { IsVain parts.old reached.new.reached }
+    ensures vain { IsVain parts.now reached.new.reached }
     ensures keys { candidates.new.keys.room ≡ candidates.old.keys.room }
-    ensures answers { AreAnswers parts.old.tables parts.old.clock parts.old.interest
-        parts.old.parked candidates.new }
-    ensures knows { R.knows ready.new parts.old.tables parts.old.clock parts.old.interest }
+    ensures answers { AreAnswers parts.now.tables parts.now.clock parts.now.interest
+        parts.now.parked candidates.new }
+    ensures knows { R.knows ready.new parts.now.tables parts.now.clock parts.now.interest }
     ensures exact { result
-        ≡ chosen_number parts.old.tables parts.old.clock parts.old.interest parts.old.parked step
+        ≡ chosen_number parts.now.tables parts.now.clock parts.now.interest parts.now.parked step
         target }
 {
     parts.known();

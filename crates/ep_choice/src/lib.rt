@@ -15,7 +15,7 @@ mod narrowing;
 
 pub use crate::candidates::Candidates;
 pub use crate::choice::Choice;
-pub use crate::choosing::choose;
+pub use crate::choosing::choose_exclusive;
 pub use crate::losing::{note_deleted, note_dying};
-pub use crate::marking::mark;
+pub use crate::marking::mark_woken;
 pub use crate::narrowing::narrow;

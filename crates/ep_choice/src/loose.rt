@@ -1,49 +1,33 @@
 //! Marks at instances that have lost a guard.
-ghost use Rattle.std.specs.Prelude.{◌≡◌, ◌<◌, [], List, filter, ℕ};
+ghost use Rattle.std.specs.Prelude.{◌≡◌, [], List, filter, ℕ};
 ghost use Rattle.ep_choice.specs.Choose.{HaveInstances};
 ghost use Rattle.ep_choice.specs.Lost.{AreAbove, is_loose, marked_loose};
 ghost use Rattle.ep_choice.specs.Room.{HaveRoom};
-ghost use Rattle.ep_climb.specs.Reach.{Ascends, AreHome, AreRoomy, IsClosed};
+ghost use Rattle.ep_climb.specs.Reach.{AreRoomy};
 ghost use Rattle.ep_nest.specs.Links.{edges};
 ghost use Rattle.ep_park.specs.Turns.{marked_in_turn};
 
 use crate::choosing::is_awaited;
 use crate::guarded::is_guarded;
-use ep_base::{DescId, EntryId};
+use ep_base::DescId;
 use ep_calls::Parts;
-use ep_climb::{Readiness, reach_each};
-use ep_nest::Graph;
-use ep_ready::Walk;
+use ep_climb::{Along, Readiness, ascend};
+use ep_walk::Walk;
 use std::alloc::Global;
 
-/// Reaches an instance and those above it, by all links. If it was reached before, so were those.
-fn ascend_all(graph: &mut Graph, reached: &mut Walk<Global>, instance: DescId)
-    requires closed { IsClosed (edges graph.old) reached.old.reached }
-    requires room { instance.0 < reached.old.room }
-    requires home { AreHome graph.old reached.old }
-    ensures graph { graph.new ≡ graph.old }
-    ensures exact { Ascends (edges graph.old) instance.0 reached.old reached.new }
-{
-    if !reached.reach(instance.0) {
-        return;
-    }
-    let above = graph.above(instance, &|_id: EntryId| true);
-    reach_each(reached, above);
-}
-
 /// Reaches exactly the instances that lost a registration, and those above them.
-fn reach_loose(parts: &mut Parts, reached: &mut Walk<Global>, lost: &Walk<Global>)
-    requires room { AreRoomy parts.old.interest reached.old }
+fn reach_loose(parts: &Parts, reached: &mut Walk<Global>, lost: &Walk<Global>)
+    requires room { AreRoomy parts.now.interest reached.old }
     requires fits { HaveRoom lost.now.reached reached.old }
-    ensures parts { parts.new ≡ parts.old }
     ensures room { reached.new.room ≡ reached.old.room }
-    ensures exact { AreAbove (edges parts.old.graph) lost.now.reached reached.new.reached }
+    ensures exact { AreAbove (edges parts.now.graph) lost.now.reached reached.new.reached }
 {
     parts.known();
     parts.interest.known();
     reached.forget();
     for index in 0..lost.count() {
-        ascend_all(&mut parts.graph, reached, DescId(lost.at(index)));
+        let instance = DescId(lost.at(index));
+        ascend(Along::Every, &parts.graph, reached, instance);
     }
 }
 

@@ -10,7 +10,7 @@ ghost use Rattle.ep_table.specs.Value.{number_under};
 use bitflags::Flags;
 use ep_base::{DescId, EntryId, Mask};
 use ep_calls::{Operation, Parts, Plan};
-use ep_ready::Walk;
+use ep_walk::Walk;
 use std::alloc::Global;
 
 /// The instance of the registration under a key, if that is exclusive or on an instance.

@@ -11,7 +11,7 @@ use crate::narrowing::narrow;
 use ep_base::{DescId, EventNumber};
 use ep_calls::Parts;
 use ep_climb::{Readiness, mark_due, reach};
-use ep_ready::Walk;
+use ep_walk::Walk;
 use std::alloc::Global;
 
 /// Takes from what an event reached what it doesn't wake: of the exclusive registrations on each target only the chosen
@@ -59,7 +59,7 @@ fn wake<R: Readiness>(
 /// and nothing is lost. It takes no memory. While no registration is exclusive, and none was, it looks only at what the
 /// event reached and at `attend`.
 #[inline(always)]
-pub fn mark<R: Readiness>(
+pub fn mark_woken<R: Readiness>(
     parts: &mut Parts,
     ready: &mut R,
     reached: &mut Walk<Global>,

@@ -11,13 +11,13 @@ ghost use Rattle.ep_interest.specs.Registrations.{entry_under, settled};
 ghost use Rattle.ep_view.specs.Marking.{narrowed_now};
 
 use crate::candidates::Candidates;
-use crate::choosing::choose;
+use crate::choosing::choose_exclusive;
 use bitflags::Flags;
 use ep_base::{DescId, EntryId, EntryNumber, EventNumber, Mask};
 use ep_calls::Parts;
 use ep_climb::Readiness;
 use ep_interest::Interest;
-use ep_ready::Walk;
+use ep_walk::Walk;
 use std::alloc::Global;
 
 /// The target of the registration under a key, if that is exclusive.
@@ -123,7 +123,7 @@ pub fn narrow<R: Readiness>(
     begin(reached, candidates, targets);
     for index in 0..targets.count() {
         let target = DescId(targets.at(index));
-        let chosen = choose(parts, ready, reached, candidates, target, step);
+        let chosen = choose_exclusive(parts, ready, reached, candidates, target, step);
         keep(parts, target, chosen);
     }
 }

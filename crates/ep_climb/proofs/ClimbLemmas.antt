@@ -2,6 +2,8 @@
 use Rattle.std.proofs.Common.{◌≡◌, ◌∙◌, ◌==◌, ◌&&◌, ◌||◌, ◌++◌, ◌<◌, ◌+◌, ℕ, Bool, true, false, List, [], ◌∷◌, ap, get_or, inl, inr, is_some, length, map, refl, sym, take, unwrap_or}
 use Rattle.std.proofs.lemmas.List.{map_more}
 use Rattle.std.proofs.lemmas.List.Recursion.{or_at}
+use Rattle.ep_facts.proofs.NatFacts.{same_nat}
+use Rattle.ep_facts.proofs.BoolFacts.{both_true}
 use Rattle.ep_base.specs.declared.ids.DescId.{DescId}
 use Rattle.ep_calls.proofs.ClimbLemmas.{among_keys, climbs_on}
 use Rattle.ep_calls.specs.Climb.{is_reached_key, risen}
@@ -10,7 +12,6 @@ use Rattle.ep_climb.specs.Reach.{AreLive, AreReached}
 use Rattle.ep_interest.specs.Registrations.{Registrations}
 use Rattle.ep_interest.specs.declared.entry.Entry.{Entry}
 use Rattle.ep_law.proofs.ListLemmas.{all_member}
-use Rattle.ep_law.proofs.TestLemmas.{both_true, same_nat}
 use Rattle.ep_law.specs.Laws.{Member}
 use Rattle.ep_machine.specs.Bits.{IN}
 use Rattle.ep_machine.specs.Counts.{brings}

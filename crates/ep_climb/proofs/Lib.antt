@@ -1,4 +1,5 @@
 pub mod WalkLemmas
+pub mod AscentLemmas
 pub mod ReachLemmas
 pub mod ClimbLemmas
 pub mod MarkLemmas

@@ -11,20 +11,12 @@ use Rattle.ep_law.specs.Laws.{Member}
 use Rattle.ep_machine.specs.Bits.{IN}
 use Rattle.ep_machine.specs.Counts.{brings}
 use Rattle.ep_nest.proofs.ElementLemmas.{Contains-nil}
-use Rattle.ep_nest.specs.Links.{admitted_by, edges}
 use Rattle.ep_nest.specs.declared.link.Link.{Link}
-use Rattle.ep_ready.specs.Walk.{Walk, with_reached}
 use Rattle.ep_table.specs.Value.{Seen}
-use Rattle.ep_climb.proofs.WalkLemmas.{ascends_far, reaches_none}
-use Rattle.ep_climb.specs.Reach.{Ascends}
 
 pub no_links : (ls : List Link) → nat_lt 0 (length ls) ≡ false → ls ≡ []
 no_links [] h = refl
 no_links (l ∷ ls) h = let some : nat_lt 0 (length (l ∷ ls)) ≡ true = grind (arith, nat_tests) in absurd (false≢true (sym h ∙ some))
-
-pub ascends_alone : (p : ℕ → Bool) (j : ℕ) (w new : Walk) → new ≡ with_reached w j → Ascends (edges (admitted_by p [])) j w new
-ascends_alone p j w new is =
-    ascends_far (edges (admitted_by p [])) j w new new [] is (λ i. (λ t. absurd (false≢true t), λ up. absurd (Contains-nil (i, up.1.0) up.1.1))) (reaches_none new)
 
 module _ (v : Seen) (r : Registrations) (nested : AreNested v r []) where
   pub is_on_none : (x : Entry) → Member x r.entries → is_nested v x ≡ false

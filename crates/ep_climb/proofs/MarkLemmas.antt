@@ -4,13 +4,13 @@ use Rattle.std.proofs.lemmas.Bool.{cases_Bool, false≢true}
 use Rattle.std.proofs.lemmas.List.{append-nil}
 use Rattle.std.proofs.lemmas.Option.{get_or_from_slice_get}
 use Rattle.std.proofs.lemmas.List.Elements.{All-head, All-tail, filter-append, filter_more}
+use Rattle.ep_facts.proofs.NatFacts.{from_test}
 use Rattle.ep_base.specs.declared.ids.DescId.{DescId}
 use Rattle.ep_calls.proofs.HoldLemmas.{held_same, place, placed_same}
 use Rattle.ep_calls.proofs.WaitLemmas.{coherent_parked}
 use Rattle.ep_calls.specs.Parking.{ready_key}
 use Rattle.ep_calls.specs.Parts.{AreCoherent, Parts}
 use Rattle.ep_calls.specs.Stands.{ArePlaced, IsPlaced}
-use Rattle.ep_law.proofs.TestLemmas.{from_test}
 use Rattle.ep_machine.specs.State.{Waiter}
 use Rattle.ep_machine.specs.Waits.{is_marked_at, marked_if_due, waits_at}
 use Rattle.ep_park.specs.Turns.{marked_in_turn}

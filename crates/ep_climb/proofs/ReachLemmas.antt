@@ -1,10 +1,10 @@
 -- What a walk reaches is what IN reaches.
 use Rattle.std.proofs.Common.{◌≡◌, ◌∙◌, ◌<◌, ◌==◌, ◌&&◌, ◌⊎◌, ◌↔◌, ℕ, zero, suc, Bool, true, false, Contains, List, [], ◌∷◌, None, Some, ap, cond, filter, inl, inr, is_some, map, nat_lt, refl, subst, sym}
 use Rattle.std.proofs.lemmas.List.Elements.{All-contains}
+use Rattle.ep_facts.proofs.BoolFacts.{both_true, same_bools}
 use Rattle.ep_base.specs.declared.ids.DescId.{DescId}
 use Rattle.ep_calls.proofs.EntryKeyLemmas.{IsFound, IsKeyed, each_found, each_keyed}
 use Rattle.ep_calls.proofs.EntryLemmas.{holds_under, key_of, member_of}
-use Rattle.ep_calls.proofs.FindLemmas.{same_bools}
 use Rattle.ep_calls.proofs.GraphLemmas.{Lives, number, numbers_apart}
 use Rattle.ep_calls.specs.Climb.{AreNested, is_nested, is_reached_key, link_of}
 use Rattle.ep_calls.specs.Stands.{AreLinked, IsLinked, watch_at}
@@ -14,7 +14,6 @@ use Rattle.ep_interest.specs.Registrations.{IsSound, Registrations, entry_found,
 use Rattle.ep_interest.specs.declared.entry.Entry.{Entry}
 use Rattle.ep_law.proofs.GraphLemmas.{member_of_map}
 use Rattle.ep_law.proofs.ListLemmas.{all_member, member_map}
-use Rattle.ep_law.proofs.TestLemmas.{both_true}
 use Rattle.ep_law.specs.Laws.{Member}
 use Rattle.ep_machine.specs.Bits.{IN, asked}
 use Rattle.ep_machine.specs.Lists.{is_among}
@@ -28,8 +27,8 @@ use Rattle.ep_nest.specs.declared.link.Link.{Link}
 use Rattle.ep_nest.specs.declared.link.Way.TheVariants.{Down}
 use Rattle.ep_order.proofs.ReachLemmas.{all_reached}
 use Rattle.ep_order.specs.Reach.{IsReachedFrom, lets_by, open_links}
-use Rattle.ep_ready.specs.ReadyLists.{entry_id}
-use Rattle.ep_ready.specs.Walk.{Walk}
+use Rattle.ep_rings.specs.KeyWalk.{entry_id}
+use Rattle.ep_walk.specs.Walk.{Walk}
 use Rattle.ep_table.specs.Value.{Seen, Sound as SoundTables, number_under as desc_number}
 use Rattle.ep_view.specs.KernelView.{KernelWatch, reached_now}
 

@@ -1,9 +1,12 @@
 -- Registrations after one was added, modified or deleted, by their keys.
 use Rattle.std.proofs.Common.{◌≡◌, ◌≢◌, ◌++◌, ◌==◌, ◌∙◌, ◌+◌, ◌≤◌, ℕ, zero, suc, Bool, true, false, IsSome, List, [], ◌∷◌, None, Option, Some, ap, arith, cond, filter, inl, inr, map, not, refl, slice_index_or, slice_set, sym, unwrap_or}
 use Rattle.std.specs.Option.{option_map}
-use Rattle.std.proofs.lemmas.Bool.{cases_Bool, cases_eq, false≢true}
+use Rattle.std.proofs.lemmas.Bool.{cases_eq}
 use Rattle.std.proofs.lemmas.List.{get_or-set_other}
 use Rattle.std.proofs.lemmas.Map.Entries.{option_filter}
+use Rattle.std.proofs.lemmas.Option.{none-some}
+use Rattle.ep_facts.proofs.OptionFacts.{some_same, value_of}
+use Rattle.ep_facts.proofs.NatFacts.{same_nat, test_apart}
 use Rattle.ep_base.specs.declared.ids.EntryId.{EntryId}
 use Rattle.ep_base.specs.declared.mask.Mask.{Mask}
 use Rattle.ep_interest.specs.Registrations.{GainsKey, IsSound, Registrations, entry_found, entry_under, is_other, modified, number_under, numbered}
@@ -14,7 +17,6 @@ use Rattle.ep_calls.proofs.MappedLemmas.{numbered_mapped}
 use Rattle.ep_calls.specs.Ids.{HadOrAdds}
 use Rattle.ep_calls.proofs.AdditionLemmas.{found_passes}
 use Rattle.ep_calls.proofs.EntryLemmas.{number_of}
-use Rattle.ep_law.proofs.TestLemmas.{from_test, same_nat}
 
 -- one registration is set, and the others stay
 pub record Sets (old new : Registrations) (id : EntryId) (y : Entry) : Type 0 where
@@ -28,25 +30,9 @@ pub record Clears (old new : Registrations) (id : EntryId) : Type 0 where
   pub others : (k : EntryId) → k.0 ≢ id.0 → entry_under new k ≡ entry_under old k
   pub ids : HadOrAdds old new
 
-pub apart_nat : (j k : ℕ) → j ≢ k → (j == k) ≡ false
-apart_nat j k ne = elim (cases_Bool (j == k)) [
-  | inl e ↦ absurd (ne (from_test j k e))
-  | inr e ↦ e
-]
-
-none_some : {A : Type 0} (a : A) → None ≡ Some a → ⊥
-none_some a h = absurd cc
-
-pub some_of : {A : Type 0} (o : Option A) → IsSome o → (a : A) × (o ≡ Some a)
-some_of None h = absurd (false≢true h)
-some_of (Some a) h = (a, refl)
-
-some_same : (m n : ℕ) → Some m ≡ Some n → m ≡ n
-some_same m n h = ap (λ (o : Option ℕ). unwrap_or o 0) h
-
 -- Added.
 numbered_more : (xs : List Entry) (y x : Entry) (n : ℕ) → numbered xs n ≡ Some x → numbered (xs ++ y ∷ []) n ≡ Some x
-numbered_more [] y x n h = absurd (none_some x h)
+numbered_more [] y x n h = absurd (none-some x h)
 numbered_more (z ∷ xs) y x n h =
     elim (z.number == n) as (λ b. cond b (Some z) (numbered xs n) ≡ Some x → cond b (Some z) (numbered (xs ++ y ∷ []) n) ≡ Some x) [
       | true ↦ λ e. e
@@ -57,7 +43,7 @@ numbered_last : (xs : List Entry) (y : Entry) → numbered xs y.number ≡ None 
 numbered_last [] y h = ap (λ (b : Bool). cond b (Some y) None) (same_nat y.number)
 numbered_last (z ∷ xs) y h =
     elim (z.number == y.number) as (λ b. cond b (Some z) (numbered xs y.number) ≡ None → cond b (Some z) (numbered (xs ++ y ∷ []) y.number) ≡ Some y) [
-      | true ↦ λ e. absurd (none_some z (sym e))
+      | true ↦ λ e. absurd (none-some z (sym e))
       | false ↦ λ e. numbered_last xs y e
     ] h
 
@@ -79,7 +65,7 @@ module _ (old new : Registrations) (was : IsSound old) (id : EntryId) (y : Entry
   found_still : (o : Option ℕ) → ((n : ℕ) → o ≡ Some n → IsSome (numbered old.entries n)) → entry_found new.entries o ≡ entry_found old.entries o
   found_still None h = refl
   found_still (Some n) h =
-      let x = some_of (numbered old.entries n) (h n refl) in
+      let x = value_of (numbered old.entries n) (h n refl) in
       ap (λ (xs : List Entry). numbered xs n) entries ∙ (numbered_more old.entries y x.0 n x.1 ∙ sym x.1)
 
   added_ids : HadOrAdds old new
@@ -124,7 +110,7 @@ module _ (old new : Registrations) (was : IsSound old) (id : EntryId) (x : Entry
   other_stays k ne None h = refl
   other_stays k ne (Some z) h =
       let apart : z.number ≢ x.number = λ e. ne (ap (λ (j : EntryId). j.0) (was.one_key k id x.number ((number_of old k z h) ∙ ap (λ (n : ℕ). Some n) e) (number_of old id x here))) in
-      ap (λ (b : Bool). Some (cond b (renewed mask tag z) z)) (apart_nat z.number x.number apart)
+      ap (λ (b : Bool). Some (cond b (renewed mask tag z) z)) (test_apart z.number x.number apart)
 
   pub sets_modified : Sets old new id (renewed mask tag x)
   sets_modified = record {
@@ -152,12 +138,12 @@ module _ (old new : Registrations) (was : IsSound old) (id : EntryId) (x : Entry
   left_found : (k : EntryId) → k.0 ≢ id.0 → (o : Option ℕ) → number_under old k ≡ o → entry_found (filter (is_other x.number) old.entries) o ≡ entry_found old.entries o
   left_found k ne None h = refl
   left_found k ne (Some m) h =
-      let z = some_of (numbered old.entries m) (was.keyed k m h) in
+      let z = value_of (numbered old.entries m) (was.keyed k m h) in
       let same : z.0.number ≡ m = numbered_number old.entries m z.0 z.1 in
       let apart : z.0.number ≢ x.number = λ e. ne (ap (λ (j : EntryId). j.0) (was.one_key k id x.number (h ∙ ap (λ (n : ℕ). Some n) (sym same ∙ e)) (number_of old id x here))) in
       numbered_filter (is_other x.number) old.entries 0 m was.rises
       ∙ (ap (option_filter (is_other x.number)) z.1
-      ∙ (ap (λ (b : Bool). cond (not b) (Some z.0) None) (apart_nat z.0.number x.number apart) ∙ sym z.1))
+      ∙ (ap (λ (b : Bool). cond (not b) (Some z.0) None) (test_apart z.0.number x.number apart) ∙ sym z.1))
 
   pub clears_deleted : Clears old new id
   clears_deleted = record {
@@ -166,7 +152,7 @@ module _ (old new : Registrations) (was : IsSound old) (id : EntryId) (x : Entry
         ap (entry_found new.entries) (number_stays k ne)
         ∙ (ap (λ (xs : List Entry). entry_found xs (number_under old k)) (entries ∙ ap (λ (n : ℕ). filter (is_other n) old.entries) gone_number) ∙ left_found k ne (number_under old k) refl);
     ids = λ k n h. elim (cases_eq k.0 id.0) [
-      | inl is ↦ absurd (none_some n (sym number_gone ∙ (ap (λ (j : ℕ). number_under new (record { 0 = j })) (sym is) ∙ h)))
+      | inl is ↦ absurd (none-some n (sym number_gone ∙ (ap (λ (j : ℕ). number_under new (record { 0 = j })) (sym is) ∙ h)))
       | inr ne ↦ inl (sym (number_stays k ne) ∙ h)
     ];
   }

@@ -1,38 +1,24 @@
 -- A walk that reaches instances, one after another.
-use Rattle.std.proofs.Common.{◌≡◌, ◌<◌, ◌+◌, ◌++◌, ◌||◌, ◌==◌, ◌⊎◌, ◌↔◌, ◌∙◌, ℕ, suc, Bool, true, false, List, [], ◌∷◌, None, Option, Some, ap, append-nil, append_assoc, arith, cond, get_or, inl, inr, length, nat_lt, refl, rules, subst, sym, take}
+use Rattle.std.proofs.Common.{◌≡◌, ◌<◌, ◌+◌, ◌++◌, ◌||◌, ◌==◌, ◌⊎◌, ◌∙◌, ℕ, suc, Bool, true, false, List, [], ◌∷◌, None, Option, Some, ap, append-nil, append_assoc, arith, cond, get_or, inl, inr, length, nat_lt, refl, rules, subst, sym, take}
 use Rattle.std.proofs.Math.Bool.{or-false, or_assoc}
 use Rattle.std.proofs.lemmas.Bool.{cases_Bool, cases_eq}
-use Rattle.std.proofs.lemmas.List.{map_more, take_more}
-use Rattle.std.proofs.lemmas.List.Recursion.{or_at, or_push}
-use Rattle.std.specs.List.{All}
+use Rattle.std.proofs.lemmas.List.{take_more}
+use Rattle.std.proofs.lemmas.List.Recursion.{or_push}
+use Rattle.ep_facts.proofs.NatFacts.{from_test}
+use Rattle.ep_facts.proofs.AmongFacts.{among_end}
+use Rattle.ep_facts.proofs.BoolFacts.{or_cases, or_left}
 use Rattle.ep_base.specs.declared.ids.DescId.{DescId}
 use Rattle.ep_base.specs.declared.ids.EntryId.{EntryId}
 use Rattle.ep_interest.specs.Passes.{has_id, passes_on}
 use Rattle.ep_interest.specs.declared.entry.Entry.{Entry}
 use Rattle.ep_interest.specs.Registrations.{Registrations, entry_under}
-use Rattle.ep_law.proofs.TestLemmas.{from_test, or_left, or_right, same_nat, same_test}
 use Rattle.ep_machine.specs.Lists.{is_among}
 use Rattle.ep_nest.proofs.ChainLemmas.{joined}
-use Rattle.ep_nest.proofs.ElementLemmas.{Contains-from_filter, Contains-from_map}
-use Rattle.ep_nest.proofs.RuleLemmas.{above_by_rule}
-use Rattle.ep_nest.specs.Ascent.{Finds, IsMet}
 use Rattle.ep_nest.specs.Chains.{IsAbove}
-use Rattle.ep_nest.specs.Links.{admitted_by, edges, ends_of, keys}
 use Rattle.ep_nest.specs.declared.link.Link.{Link}
-use Rattle.ep_nest.specs.declared.link.Way.TheVariants.{Down}
-use Rattle.ep_ready.specs.ReadyLists.{entry_id}
-use Rattle.ep_ready.specs.Walk.{Walk, with_reached}
+use Rattle.ep_rings.specs.KeyWalk.{entry_id}
+use Rattle.ep_walk.specs.Walk.{Walk, with_reached}
 use Rattle.ep_climb.specs.Reach.{AreHome, AreRoomy, Ascends, AscendsFrom, IsClosed, IsFrom, IsGrown, PassesTo, Reaches, Walks, open_edges, passed_by}
-
-or_cases : (a b : Bool) → (a || b) ≡ true → (a ≡ true) ⊎ (b ≡ true)
-or_cases true b h = inl refl
-or_cases false b h = inr h
-
-among_end : (ks : List ℕ) (n k : ℕ) → is_among (ks ++ n ∷ []) k ≡ (is_among ks k || k == n)
-among_end ks n k = or_push (λ js. is_among js k) (λ j. k == j) refl (λ j js. refl) ks n
-
-pub among_at : (ds : List DescId) (i : ℕ) (d : DescId) → i < length ds → is_among (keys ds) (get_or ds i d).0 ≡ true
-among_at ds i d lt = let k = (get_or ds i d).0 in or_at (λ es. is_among (keys es) k) (λ e. k == e.0) refl (λ e es. refl) ds i d lt (same_nat k)
 
 -- One after another.
 pub not_grown : (ks : List ℕ) → IsGrown ks ks
@@ -48,7 +34,7 @@ reaches_both f g old mid new a b = record {
   each = λ i. b.each i ∙ (ap (λ (t : Bool). t || g i) (a.each i) ∙ or_assoc (is_among old.reached i) (f i) (g i));
 }
 
-reaches_same : (f g : ℕ → Bool) (old new : Walk) → ((i : ℕ) → f i ≡ g i) → Reaches f old new → Reaches g old new
+pub reaches_same : (f g : ℕ → Bool) (old new : Walk) → ((i : ℕ) → f i ≡ g i) → Reaches f old new → Reaches g old new
 reaches_same f g old new same a = record { room = a.room; grown = a.grown; each = λ i. a.each i ∙ ap (λ (t : Bool). is_among old.reached i || t) (same i) }
 
 pub reaches_one : (w : Walk) (j : ℕ) (new : Walk) → new ≡ with_reached w j → Reaches (λ i. i == j) w new
@@ -63,13 +49,28 @@ reaches_one w j new is = subst (Reaches (λ i. i == j) w) (sym is) (by_case (is_
   by_case true t = record { room = refl; grown = not_grown w.reached; each = stood t }
   by_case false f = record { room = refl; grown = (j ∷ [], refl); each = among_end w.reached j }
 
-pub reaches_next : (ds : List DescId) (i : ℕ) (d : DescId) (old mid new : Walk) → i < length ds → Reaches (is_among (keys (take i ds))) old mid → new ≡ with_reached mid (get_or ds i d).0
-    → Reaches (is_among (keys (take (i + 1) ds))) old new
-reaches_next ds i d old mid new lt a is =
-    let here = get_or ds i d in
-    reaches_same (λ j. is_among (keys (take i ds)) j || j == here.0) (is_among (keys (take (i + 1) ds))) old new
-    (λ j. sym (ap (λ (ks : List ℕ). is_among ks j) (map_more (λ (e : DescId). e.0) ds i d lt) ∙ among_end (keys (take i ds)) here.0 j))
-    (reaches_both (is_among (keys (take i ds))) (λ j. j == here.0) old mid new a (reaches_one mid here.0 new is))
+-- Once some of these were reached, with those that are still to be.
+pub record Reaching (f left : ℕ → Bool) (old new : Walk) : Type 0 where
+  pub room : new.room ≡ old.room
+  pub grown : IsGrown old.reached new.reached
+  pub each : (i : ℕ) → (is_among new.reached i || left i) ≡ (is_among old.reached i || f i)
+
+pub reaching_first : (f left : ℕ → Bool) (w : Walk) → ((i : ℕ) → left i ≡ f i) → Reaching f left w w
+reaching_first f left w same = record { room = refl; grown = not_grown w.reached; each = λ i. ap (λ (t : Bool). is_among w.reached i || t) (same i) }
+
+pub reaching_next : (f g left : ℕ → Bool) (old mid new : Walk) → Reaches g mid new → Reaching f (λ i. g i || left i) old mid → Reaching f left old new
+reaching_next f g left old mid new a h = record {
+  room = a.room ∙ h.room;
+  grown = (h.grown.0 ++ a.grown.0, a.grown.1 ∙ (ap (λ (ks : List ℕ). ks ++ a.grown.0) h.grown.1 ∙ append_assoc old.reached h.grown.0 a.grown.0));
+  each = λ i. ap (λ (t : Bool). t || left i) (a.each i) ∙ (or_assoc (is_among mid.reached i) (g i) (left i) ∙ h.each i);
+}
+
+pub reaching_all : (f left : ℕ → Bool) (old new : Walk) → ((i : ℕ) → left i ≡ false) → Reaching f left old new → Reaches f old new
+reaching_all f left old new none h = record {
+  room = h.room;
+  grown = h.grown;
+  each = λ i. sym (or-false (is_among new.reached i)) ∙ (ap (λ (t : Bool). is_among new.reached i || t) (sym (none i)) ∙ h.each i);
+}
 
 -- The room stays.
 pub room_still : (r : Registrations) (old new : Walk) → new.room ≡ old.room → AreRoomy r old → AreRoomy r new
@@ -78,48 +79,14 @@ room_still r old new same h id x at = subst (λ (n : ℕ). x.instance.0 < n) (sy
 pub home_still : (ls : List Link) (old new : Walk) → new.room ≡ old.room → AreHome ls old → AreHome ls new
 home_still ls old new same h link there = subst (λ (n : ℕ). link.outer.0 < n) (sym same) (h link there)
 
--- what a filter by a rule finds above an instance
-pub above_found : (P : EntryId → Bool → Type 0) (q : ℕ → Bool) (ls : List Link) (j : ℕ) (ks : List ℕ) → ((e : EntryId) (b : Bool) → P e b → b ≡ q e.0) → Finds P ls j ks
-    → (i : ℕ) → (is_among ks i ≡ true) ↔ IsAbove (edges (admitted_by q ls)) i j
-above_found P q ls j ks rule found =
-    let follows : All (λ l. IsMet ks j l → found.admits l.entry.0 ≡ q l.entry.0) ls = λ k d lt met. rule (get_or ls k d).entry (found.admits (get_or ls k d).entry.0) (found.asked k d lt met) in
-    above_by_rule found.admits q ls ks j follows found.exact
-
--- what is above an instance is the outer end of a link
-pub above_home : (p : ℕ → Bool) (ls : List Link) (w : Walk) → AreHome ls w → (i j : ℕ) → IsAbove (edges (admitted_by p ls)) i j → i < w.room
-above_home p ls w home i j up =
-    let m = Contains-from_map (ends_of Down) (admitted_by p ls) (i, up.1.0) up.1.1 in
-    let there = Contains-from_filter (λ (x : Link). p x.entry.0) ls m.0 m.1 in
-    subst (λ (n : ℕ). n < w.room) (ap (λ (e : ℕ × ℕ). e.0) m.2) (home m.0 there.0)
-
 -- Upwards.
 module _ (es : List (ℕ × ℕ)) where
   join : (i k j : ℕ) → IsAbove es i k → IsAbove es k j → IsAbove es i j
   join i k j a b = (a.0 + suc b.0, joined es (suc a.0) (suc b.0) (suc (a.0 + suc b.0)) i k j (omega arith) a.1 b.1)
 
-  over : (i k j : ℕ) → IsAbove es i k → IsFrom es k j → IsAbove es i j
+  pub over : (i k j : ℕ) → IsAbove es i k → IsFrom es k j → IsAbove es i j
   over i k j a (inl e) = subst (IsAbove es i) e a
   over i k j a (inr b) = join i k j a b
-
-  module _ (j : ℕ) (w : Walk) where
-    pub ascends_far : (mid new : Walk) (ks : List ℕ) → mid ≡ with_reached w j → ((i : ℕ) → (is_among ks i ≡ true) ↔ IsAbove es i j) → Reaches (is_among ks) mid new → Ascends es j w new
-    ascends_far mid new ks is above a = record { room = both.room; grown = both.grown; exact = λ i. (forth i, back i) } where
-      both : Reaches (λ i. i == j || is_among ks i) w new
-      both = reaches_both (λ i. i == j) (is_among ks) w mid new (reaches_one w j mid is) a
-
-      forth : (i : ℕ) → is_among new.reached i ≡ true → (is_among w.reached i ≡ true) ⊎ IsFrom es i j
-      forth i t = elim (or_cases (is_among w.reached i) (i == j || is_among ks i) (sym (both.each i) ∙ t)) [
-        | inl old ↦ inl old
-        | inr more ↦ elim (or_cases (i == j) (is_among ks i) more) [
-          | inl here ↦ inr (inl (from_test i j here))
-          | inr up ↦ inr (inr ((above i).0 up))
-        ]
-      ]
-
-      back : (i : ℕ) → (is_among w.reached i ≡ true) ⊎ IsFrom es i j → is_among new.reached i ≡ true
-      back i (inl old) = both.each i ∙ or_left (is_among w.reached i) (i == j || is_among ks i) old
-      back i (inr (inl e)) = both.each i ∙ or_right (is_among w.reached i) (i == j || is_among ks i) (or_left (i == j) (is_among ks i) (same_test i j e))
-      back i (inr (inr up)) = both.each i ∙ or_right (is_among w.reached i) (i == j || is_among ks i) (or_right (i == j) (is_among ks i) ((above i).1 up))
 
   closed_from : (o : Option DescId) (old new : Walk) → IsClosed es old.reached → AscendsFrom es o old new → IsClosed es new.reached
   closed_from o old new closed a i j t up = (a.exact i).1 (by ((a.exact j).0 t)) where

@@ -4,14 +4,17 @@ use Rattle.std.specs.Prelude.{◌++◌, ◌≡◌, ◌<◌, ◌⊎◌, ◌↔◌
 use Rattle.ep_base.specs.declared.ids.DescId.{DescId}
 use Rattle.ep_base.specs.declared.ids.EntryId.{EntryId}
 use Rattle.ep_calls.specs.Climb.{is_reached_key}
+use Rattle.ep_climb.specs.declared.ascending.Along.{Along}
+use Rattle.ep_climb.specs.declared.ascending.Along.TheVariants.{Every, Open}
 use Rattle.ep_interest.specs.Registrations.{Registrations, entry_under, lets_in}
 use Rattle.ep_interest.specs.declared.entry.Entry.{Entry}
 use Rattle.ep_machine.specs.Lists.{is_among}
 use Rattle.ep_nest.specs.Chains.{IsAbove}
-use Rattle.ep_nest.specs.Links.{admitted_by, edges}
+use Rattle.ep_nest.specs.Links.{admitted_by, edges, ends}
 use Rattle.ep_nest.specs.declared.link.Link.{Link}
-use Rattle.ep_ready.specs.ReadyLists.{entry_id}
-use Rattle.ep_ready.specs.Walk.{Walk}
+use Rattle.ep_nest.specs.declared.link.Way.TheVariants.{Up}
+use Rattle.ep_rings.specs.KeyWalk.{entry_id}
+use Rattle.ep_walk.specs.Walk.{Walk}
 use Rattle.ep_table.specs.Value.{Seen, number_under}
 
 -- the instance to which it passes something on that was raised at its target in event n
@@ -22,6 +25,19 @@ passed_by n (Some x) = if x.passes_in == n then Some x.instance else None
 -- by keys: from each instance to those from which IN goes on to it
 abbrev pub open_edges : Registrations → List Link → List (ℕ × ℕ)
 open_edges r ls = edges (admitted_by (λ k. lets_in (entry_under r (entry_id k))) ls)
+
+-- a walk goes by the link of the registration under a key
+abbrev pub is_along : Along → ℕ → Bool
+is_along Every k = true
+is_along (Open r) k = lets_in (entry_under r.now (entry_id k))
+
+-- by keys: from each instance to those above it to which such a walk goes on
+abbrev pub edges_along : Along → List Link → List (ℕ × ℕ)
+edges_along a ls = edges (admitted_by (is_along a) ls)
+
+-- it goes by one of these links to an instance
+abbrev pub are_outer : Along → List Link → ℕ → Bool
+are_outer a ls = is_among (ends Up (admitted_by (is_along a) ls))
 
 abbrev pub IsFrom : List (ℕ × ℕ) → ℕ → ℕ → Type 0
 IsFrom es i j = (i ≡ j) ⊎ IsAbove es i j

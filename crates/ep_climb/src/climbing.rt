@@ -6,12 +6,13 @@ ghost use Rattle.ep_climb.specs.Reach.{AreLive, AreReached, AreRoomy};
 ghost use Rattle.ep_nest.specs.declared.link.Link.{Link as Pair};
 ghost use Rattle.ep_table.specs.Value.{number_under};
 
-use crate::reaching::{has_links, reach};
+use crate::ascending::has_links;
+use crate::reaching::reach;
 use ep_base::{DescId, EventNumber, Mask};
 use ep_calls::Parts;
 use ep_interest::Interest;
-use ep_ready::Walk;
 use ep_table::Tables;
+use ep_walk::Walk;
 use std::alloc::Global;
 
 /// Makes the registrations on an instance fresh that ask for IN, where it is one.

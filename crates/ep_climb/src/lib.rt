@@ -3,10 +3,12 @@
 //! both kernels would make calls of it, for 1 to 3 in 100 of an event.
 #![tactic(auto)]
 
+mod ascending;
 mod climbing;
 mod marking;
 mod reaching;
 
+pub use crate::ascending::{Along, ascend, has_links};
 pub use crate::climbing::{climb, freshen};
 pub use crate::marking::{Readiness, attend, left, mark, mark_at, mark_due, resumed_at};
-pub use crate::reaching::{ascend, has_links, reach, reach_each};
+pub use crate::reaching::reach;

@@ -9,7 +9,7 @@ ghost use Rattle.ep_table.specs.Value.{Seen, number_under};
 
 use ep_base::{CallerId, DescId, Event};
 use ep_calls::{Parts, Raising};
-use ep_ready::Walk;
+use ep_walk::Walk;
 use std::alloc::Global;
 
 /// The instance at which a caller waits that an event resumes. `None` if the event resumes none that is parked.

@@ -1,17 +1,43 @@
 -- A walk down that looks at one instance after another.
 use Rattle.ep_base.specs.declared.ids.DescId.{DescId}
 use Rattle.ep_machine.specs.Lists.{is_among}
-use Rattle.ep_nest.proofs.AscentLemmas.{all_seen, seen_to, sees_more}
 use Rattle.ep_nest.proofs.ChainLemmas.{joined}
 use Rattle.ep_nest.proofs.LevelLemmas.{end_from, end_of}
+use Rattle.ep_nest.proofs.NoteLemmas.{among_end, or_turned}
 use Rattle.ep_nest.specs.Chains.{IsAbove, LeadsBy}
 use Rattle.ep_nest.specs.Descent.{AreBeneath}
 use Rattle.ep_nest.specs.Links.{edges, ends, keys, starting_at}
 use Rattle.ep_nest.specs.declared.link.Link.{Link}
 use Rattle.ep_nest.specs.declared.link.Way.TheVariants.{Down}
-use Rattle.std.proofs.Common.{Bool, Contains, List, [], ap, arith, false, get_or, inl, inr, length, refl, subst, suc, sym, take, true, zero, ℕ, ◌+◌, ◌++◌, ◌<◌, ◌≤◌, ◌∙◌, ◌∷◌, ◌≡◌, ◌⊎◌, ◌==◌, ◌||◌}
+use Rattle.std.proofs.Common.{Bool, Contains, List, [], ap, arith, eq-eqb, false, get_or, inl, inr, length, refl, subst, suc, sym, take, take_all, true, zero, ℕ, ◌+◌, ◌++◌, ◌<◌, ◌≤◌, ◌∙◌, ◌∷◌, ◌≡◌, ◌⊎◌, ◌==◌, ◌||◌}
 use Rattle.std.proofs.lemmas.Bool.{eqb-true, or_cases, or_left, or_right}
 use Rattle.std.proofs.lemmas.List.{get_or-map, length-map, map-append}
+
+-- what was seen: the instance above, and the first of those that are reached
+abbrev pub seen_to : ℕ → List ℕ → ℕ → ℕ → Bool
+seen_to to ks i x = (x == to) || is_among (take i ks) x
+
+take_suc : (ks more : List ℕ) (i d : ℕ) → i < length ks → take (suc i) (ks ++ more) ≡ take i ks ++ get_or ks i d ∷ []
+take_suc [] more i d lt = absurd (omega arith)
+take_suc (k ∷ ks) more zero d lt = refl
+take_suc (k ∷ ks) more (suc i) d lt = ap (λ (xs : List ℕ). k ∷ xs) (take_suc ks more i d (omega arith))
+
+take_more : (ks more : List ℕ) (i d : ℕ) → i < length ks → take (i + 1) (ks ++ more) ≡ take i ks ++ get_or ks i d ∷ []
+take_more ks more i d lt = let e : i + 1 ≡ suc i = omega arith in ap (λ (n : ℕ). take n (ks ++ more)) e ∙ take_suc ks more i d lt
+
+pub sees_more : (to : ℕ) (ks more : List ℕ) (i d : ℕ) → i < length ks → (x : ℕ) → seen_to to (ks ++ more) (i + 1) x ≡ ((x == get_or ks i d) || seen_to to ks i x)
+sees_more to ks more i d lt x =
+    ap (λ (xs : List ℕ). (x == to) || is_among xs x) (take_more ks more i d lt)
+    ∙ (ap (λ (b : Bool). (x == to) || b) (among_end (take i ks) (get_or ks i d) x) ∙ or_turned (x == to) (x == get_or ks i d) (is_among (take i ks) x))
+
+-- once all that is reached was seen
+pub all_seen : (to : ℕ) (ks : List ℕ) (i : ℕ) → length ks ≤ i → (x : ℕ) → (x ≡ to) ⊎ (is_among ks x ≡ true) → seen_to to ks i x ≡ true
+all_seen to ks i le x why =
+    ap (λ (xs : List ℕ). (x == to) || is_among xs x) (take_all i ks le)
+    ∙ elim why [
+      | inl e ↦ or_left (x == to) (is_among ks x) (eq-eqb x to e)
+      | inr there ↦ or_right (x == to) (is_among ks x) there
+    ]
 
 module _ (ls : List Link) (from : ℕ) where
   -- these are reached, once the links from what was seen were followed

@@ -7,22 +7,14 @@ use Rattle.ep_nest.specs.Marks.{IsMarked}
 use Rattle.std.proofs.Common.{Bool, List, [], ap, eq-eqb, eqb, false, get_or, inl, inr, length, not, refl, set, subst, sym, true, ℕ, ◌++◌, ◌<◌, ◌∙◌, ◌∷◌, ◌≡◌, ◌⊎◌}
 use Rattle.std.proofs.lemmas.Bool.{and_from, and_parts, cases_Bool, cases_eq, not-true}
 use Rattle.std.proofs.lemmas.List.{get_or-set_other, get_or-set_same, map-append}
-use Rattle.std.proofs.lemmas.List.Elements.{Contains-append_left, Contains-push, Contains-push_cases}
+use Rattle.std.proofs.lemmas.List.Elements.{Contains-append_left}
+use Rattle.ep_facts.proofs.AmongFacts.{among_push}
 
 pub keys_push : (ds : List DescId) (d : DescId) → keys (ds ++ d ∷ []) ≡ keys ds ++ d.0 ∷ []
 keys_push ds d = map-append (λ (d : DescId). d.0) ds (d ∷ [])
 
-pub among_push : (ks : List ℕ) (k x : ℕ) → is_among (ks ++ k ∷ []) x ≡ true → (is_among ks x ≡ true) ⊎ (x ≡ k)
-among_push ks k x h = elim (Contains-push_cases ks k x (from_among (ks ++ k ∷ []) x h)) [
-  | inl old ↦ inl (among ks x old)
-  | inr new ↦ inr (sym new)
-]
-
 pub among_still : (ks : List ℕ) (k x : ℕ) → is_among ks x ≡ true → is_among (ks ++ k ∷ []) x ≡ true
 among_still ks k x h = among (ks ++ k ∷ []) x (Contains-append_left ks (k ∷ []) x (from_among ks x h))
-
-pub among_new : (ks : List ℕ) (k : ℕ) → is_among (ks ++ k ∷ []) k ≡ true
-among_new ks k = among (ks ++ k ∷ []) k (Contains-push ks k)
 
 among_here : (ks : List ℕ) (j k : ℕ) → is_among ks j ≡ false → (j ≡ k → ⊥) → is_among (ks ++ k ∷ []) j ≡ false
 among_here ks j k h apart = elim (cases_Bool (is_among (ks ++ k ∷ []) j)) [

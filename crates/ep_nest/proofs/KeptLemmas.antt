@@ -10,11 +10,11 @@ use Rattle.ep_nest.specs.Chains.{IsShort, LeadsBy}
 use Rattle.ep_nest.specs.Graph.{IsKept}
 use Rattle.ep_nest.specs.Lengths.{HasPlaces}
 use Rattle.ep_nest.specs.Links.{along, edges, ends_of, entries, starting_at, starts_at}
-use Rattle.ep_nest.specs.Walk.{HasGrown, HasPlace, HasRoom}
+use Rattle.ep_nest.specs.Traversal.{HasGrown, HasPlace, HasRoom}
 use Rattle.ep_nest.specs.declared.link.Link.{Link}
 use Rattle.ep_nest.specs.declared.link.Way.{Way}
 use Rattle.ep_nest.specs.declared.link.Way.TheVariants.{Down, Up}
-use Rattle.ep_nest.specs.declared.walk.Walk.{Walk}
+use Rattle.ep_nest.specs.declared.traversal.Traversal.{Traversal}
 use Rattle.std.proofs.Common.{Bool, Contains, List, [], ap, arith, false, filter, get_or, inl, inr, length, not, refl, replicate, subst, sym, true, ℕ, ◌+◌, ◌++◌, ◌-◌, ◌<◌, ◌∙◌, ◌∷◌, ◌≡◌, ◌≤◌}
 use Rattle.std.specs.List.{All}
 use Rattle.std.proofs.lemmas.Bool.{and_from, and_parts, cases_Bool, cases_lt, not-true}
@@ -132,26 +132,25 @@ grown_same v xs n y = elim (cases_lt y (length xs)) [
 ]
 
 -- a walk over fewer links
-pub room_left : {A : Type 0} (p : Link → Bool) (ls left : List Link) (w : Walk A) → left ≡ filter p ls → HasRoom ls w → HasRoom left w
+pub room_left : {A : Type 0} (p : Link → Bool) (ls left : List Link) (w : Traversal A) → left ≡ filter p ls → HasRoom ls w → HasRoom left w
 room_left p ls left w is room =
     let few : length left ≤ length ls = omega (arith, ap (λ (ls : List Link). length ls) is, length_part p ls) in
     record {
       marks = places_left p ls left is (length w.marks.items) room.marks;
       gathered = omega (arith, few, room.gathered);
-      admitted = omega (arith, few, room.admitted);
       reached = room.reached;
       level = room.level;
     }
 
 -- once links were taken away
-pub kept_left : {A : Type 0} (p : Link → Bool) (ls left : List Link) (w : Walk A) → left ≡ filter p ls → IsKept ls w → IsKept left w
+pub kept_left : {A : Type 0} (p : Link → Bool) (ls left : List Link) (w : Traversal A) → left ≡ filter p ls → IsKept ls w → IsKept left w
 kept_left p ls left w is kept = record {
   legal = legal_left p ls left is kept.legal;
   room = room_left p ls left w is kept.room;
   clear = kept.clear;
 }
 
-pub kept_grown : {A : Type 0} (ls : List Link) (old new : Walk A) → IsKept ls old → HasGrown old new → IsKept ls new
+pub kept_grown : {A : Type 0} (ls : List Link) (old new : Traversal A) → IsKept ls old → HasGrown old new → IsKept ls new
 kept_grown ls old new kept grown = record {
   legal = kept.legal;
   room = record {
@@ -159,7 +158,6 @@ kept_grown ls old new kept grown = record {
         let long = ap (λ (ms : List Bool). length ms) grown.marks.1 ∙ length-append old.marks.items (replicate grown.marks.0 false) in
         places_more (edges ls) (length old.marks.items) (length new.marks.items) (omega (arith, long)) kept.room.marks;
     gathered = let a = kept.room.gathered in let b = grown.gathered in omega arith;
-    admitted = let a = kept.room.admitted in let b = grown.admitted in omega arith;
     reached = grown.reached kept.room.reached;
     level = grown.level kept.room.level;
   };
@@ -167,7 +165,7 @@ kept_grown ls old new kept grown = record {
 }
 
 -- a link more between instances that have their marks
-pub kept_pushed : {A : Type 0} (ls : List Link) (l : Link) (key : ℕ) (w : Walk A) → IsKept ls w → HasPlace w key (length ls + 1) → l.outer.0 ≤ key → l.inner.0 ≤ key → is_legal (ends_of Down l ∷ edges ls) ≡ true → IsKept (ls ++ l ∷ []) w
+pub kept_pushed : {A : Type 0} (ls : List Link) (l : Link) (key : ℕ) (w : Traversal A) → IsKept ls w → HasPlace w key (length ls + 1) → l.outer.0 ≤ key → l.inner.0 ≤ key → is_legal (ends_of Down l ∷ edges ls) ≡ true → IsKept (ls ++ l ∷ []) w
 kept_pushed ls l key w kept place outer inner legal =
     let long = length_push ls l in
     record {
@@ -175,7 +173,6 @@ kept_pushed ls l key w kept place outer inner legal =
       room = record {
         marks = places_pushed ls l (length w.marks.items) kept.room.marks (omega (arith, outer, place.marks)) (omega (arith, inner, place.marks));
         gathered = omega (arith, long, place.gathered);
-        admitted = omega (arith, long, place.admitted);
         reached = kept.room.reached;
         level = kept.room.level;
       };
@@ -183,7 +180,7 @@ kept_pushed ls l key w kept place outer inner legal =
     }
 
 -- no links
-pub kept_none : {A : Type 0} (ls : List Link) (w : Walk A) → ls ≡ [] → w.marks.items ≡ [] → IsKept ls w
+pub kept_none : {A : Type 0} (ls : List Link) (w : Traversal A) → ls ≡ [] → w.marks.items ≡ [] → IsKept ls w
 kept_none ls w e em =
     let n = ap (λ (ls : List Link). length ls) e in
     let m = ap (λ (ms : List Bool). length ms) em in
@@ -192,7 +189,6 @@ kept_none ls w e em =
       room = record {
         marks = subst (λ (ls : List Link). HasPlaces (edges ls) (length w.marks.items)) (sym e) (λ k d l. absurd (omega arith));
         gathered = omega (arith, n);
-        admitted = omega (arith, n);
         reached = omega (arith, m);
         level = omega (arith, m);
       };
@@ -202,9 +198,6 @@ kept_none ls w e em =
 -- the links that start at an instance: a walk can follow them
 pub starting_few : (way : Way) (k : ℕ) (ls : List Link) → length (starting_at way k ls) ≤ length ls
 starting_few way k ls = length_part (starts_at way k) ls
-
-pub starting_distinct : (way : Way) (k : ℕ) (ls : List Link) → are_distinct (entries ls) ≡ true → are_distinct (entries (starting_at way k ls)) ≡ true
-starting_distinct way k ls h = distinct_part (starts_at way k) ls h
 
 pub starting_placed : (way : Way) (k room : ℕ) (ls : List Link) → HasPlaces (edges ls) room → All (λ l. (ends_of way l).1 < room) (starting_at way k ls)
 starting_placed way k room ls h =

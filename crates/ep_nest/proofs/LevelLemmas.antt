@@ -3,7 +3,7 @@ use Rattle.ep_machine.specs.Lists.{is_among}
 use Rattle.ep_nest.proofs.ChainLemmas.{at_most_four, front, joined, last_link}
 use Rattle.ep_nest.proofs.ElementLemmas.{Contains-filter, Contains-from_filter, Contains-from_map, Contains-map, among, from_among}
 use Rattle.ep_nest.proofs.KeptLemmas.{short_up}
-use Rattle.ep_nest.proofs.GatherLemmas.{among_new, among_push, among_still}
+use Rattle.ep_nest.proofs.GatherLemmas.{among_still}
 use Rattle.ep_nest.specs.Chains.{IsShort, LeadsBy}
 use Rattle.ep_nest.specs.Lengths.{IsLongest, NextLevel}
 use Rattle.ep_nest.specs.Links.{along, edges, ends, ends_of, starting_at, starts_at}
@@ -13,6 +13,7 @@ use Rattle.ep_nest.specs.declared.link.Way.TheVariants.{Down, Up}
 use Rattle.std.proofs.Common.{Contains, List, [], arith, eq-eqb, false, get_or, inl, inr, length, refl, subst, suc, sym, true, ℕ, ◌++◌, ◌<◌, ◌∙◌, ◌∷◌, ◌≡◌, ◌≤◌, ◌↔◌, ◌||◌}
 use Rattle.std.proofs.lemmas.Bool.{cases_lt, eqb-true, or_cases, or_left, or_right}
 use Rattle.std.proofs.lemmas.List.Elements.{Contains-get_or}
+use Rattle.ep_facts.proofs.AmongFacts.{among_last, among_push}
 
 -- where the links lead that start at an instance
 pub end_of : (way : Way) (k z : ℕ) (ls : List Link) → is_among (ends way (starting_at way k ls)) z ≡ true → Contains (along way ls) (k, z)
@@ -76,7 +77,7 @@ module _ (way : Way) (ls : List Link) where
   pub reached_more : (level next next' : List ℕ) (k : ℕ) → AreReachedFrom level next → ((z : ℕ) → is_among next' z ≡ (is_among (ends way (starting_at way k ls)) z || is_among next z)) → AreReachedFrom (level ++ k ∷ []) next'
   reached_more level next next' k are exact z = (
     λ h. elim (or_cases (is_among (ends way (starting_at way k ls)) z) (is_among next z) (sym (exact z) ∙ h)) [
-      | inl new ↦ (k, among_new level k, end_of way k z ls new)
+      | inl new ↦ (k, among_last level k, end_of way k z ls new)
       | inr old ↦ let from = (are z).0 old in (from.0, among_still level k from.0 from.1, from.2)
     ],
     λ from. exact z ∙ elim (among_push level k from.0 from.1) [

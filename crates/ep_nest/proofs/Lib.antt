@@ -5,7 +5,6 @@ pub mod AdditionLemmas
 pub mod PlaceLemmas
 pub mod FillLemmas
 pub mod GatherLemmas
-pub mod AdmitLemmas
 pub mod KeptLemmas
 pub mod TurnLemmas
 pub mod AdjacentLemmas
@@ -13,7 +12,5 @@ pub mod LevelLemmas
 pub mod DepthLemmas
 pub mod MayAddLemmas
 pub mod PurgeLemmas
-pub mod RuleLemmas
 pub mod NoteLemmas
-pub mod AscentLemmas
 pub mod DescentLemmas

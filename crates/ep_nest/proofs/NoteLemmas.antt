@@ -3,10 +3,11 @@ use Rattle.ep_machine.specs.Lists.{are_distinct, is_among}
 use Rattle.ep_nest.proofs.GatherLemmas.{distinct_push}
 use Rattle.ep_nest.specs.Marks.{AreNoted}
 use Rattle.std.proofs.Common.{Bool, List, [], ap, arith, eq-eqb, eqb, false, get_or, inl, inr, length, not, refl, set, subst, suc, sym, true, zero, ℕ, ◌+◌, ◌++◌, ◌<◌, ◌≤◌, ◌∙◌, ◌∷◌, ◌≡◌, ◌||◌, ◌==◌}
-use Rattle.std.proofs.lemmas.Bool.{and_parts, cases_Bool, and_from, cases_eq, eqb-true, ne_eqb, not-true, or_cases}
+use Rattle.std.proofs.lemmas.Bool.{and_parts, and_from, cases_eq, eqb-true, ne_eqb, not-true, or_cases}
 use Rattle.std.proofs.lemmas.List.{get_or-set_other, get_or-set_same}
 use Rattle.std.proofs.lemmas.Map.Steps.{length-le_from_distinct_below}
-use Rattle.std.specs.List.{AllByRecursion, IsDistinct, list_any}
+use Rattle.std.specs.List.{IsDistinct, list_any}
+use Rattle.ep_facts.proofs.AmongFacts.{apart_from_all}
 
 pub or_turned : (a b c : Bool) → (a || (b || c)) ≡ (b || (a || c))
 or_turned true true c = refl
@@ -17,13 +18,6 @@ or_turned false false c = refl
 pub among_end : (ks : List ℕ) (k x : ℕ) → is_among (ks ++ k ∷ []) x ≡ ((x == k) || is_among ks x)
 among_end [] k x = refl
 among_end (j ∷ ks) k x = ap (λ (b : Bool). (x == j) || b) (among_end ks k x) ∙ or_turned (x == j) (x == k) (is_among ks x)
-
-apart_from_all : (k : ℕ) (ks : List ℕ) → is_among ks k ≡ false → AllByRecursion (λ y. eqb k y ≡ false) ks
-apart_from_all k [] h = tt
-apart_from_all k (j ∷ ks) h = elim (cases_Bool (eqb k j)) [
-  | inl same ↦ absurd (let bad : true ≡ false = sym (ap (λ (b : Bool). b || is_among ks k) same) ∙ h in cc)
-  | inr apart ↦ (apart, apart_from_all k ks (sym (ap (λ (b : Bool). b || is_among ks k) apart) ∙ h))
-]
 
 as_distinct : (ks : List ℕ) → are_distinct ks ≡ true → IsDistinct eqb ks
 unfolding IsDistinct

@@ -1,6 +1,6 @@
 -- Links under tickets, through each change.
-use Rattle.std.proofs.Common.{Bool, List, None, Some, [], ap, append-nil, arith, cond, eq-eqb, eqb, false, filter, if◌then◌else◌, inl, inr, is_some, nat_eq, nat_lt, not, refl, subst, sym, true, ℕ, ◌++◌, ◌<◌, ◌∙◌, ◌∷◌, ◌==◌, ◌≡◌, ◌≤◌, ◌||◌}
-use Rattle.std.proofs.lemmas.Bool.{and_parts, cases_Bool, eqb-true, ltb-true, not-true}
+use Rattle.std.proofs.Common.{Bool, List, None, Some, [], ap, append-nil, arith, cond, eq-eqb, eqb, false, filter, if◌then◌else◌, inl, inr, is_some, nat_eq, nat_lt, not, refl, subst, sym, true, ℕ, ◌++◌, ◌<◌, ◌∙◌, ◌∷◌, ◌==◌, ◌≡◌, ◌≤◌}
+use Rattle.std.proofs.lemmas.Bool.{and_parts, cases_Bool, eqb-true, ltb-true, not-true, or_parts}
 use Rattle.std.proofs.lemmas.Bool.Decides.{eqb_tells}
 use Rattle.std.proofs.lemmas.Cmp.{ranked}
 use Rattle.std.proofs.lemmas.List.{map-append}
@@ -49,10 +49,6 @@ at_ticket t ts = ap (λ (f : ℕ → Bool). lookup f ts) (ticket_test t)
 below : (k t : ℕ) → nat_cmp k t ≡ Less → k < t
 below k t l = ranked k t Less (sym l)
 
-neither : (a b : Bool) → (a || b) ≡ false → (a ≡ false) × (b ≡ false)
-neither true b h = absurd (let bad : true ≡ false = h in cc)
-neither false b h = (refl, h)
-
 abbrev pub AreBelow : ℕ → List ℕ → Type 0
 AreBelow t ks = AllByRecursion (λ k. k < t) ks
 
@@ -96,7 +92,7 @@ within_less last t (e ∷ ts) within = elim (eqb_tells t e.0) [ inl y ↦ rw y.0
 no_ticket : (q : ℕ) (ts : List (ℕ × Link)) → is_among (entries (values_of ts)) q ≡ false → ticket_of q ts ≡ None
 no_ticket q [] none = refl
 no_ticket q (e ∷ ts) none =
-    let apart = neither (q == e.1.entry.0) (is_among (entries (values_of ts)) q) none in
+    let apart = or_parts (q == e.1.entry.0) (is_among (entries (values_of ts)) q) none in
     let off : is_of q e.1 ≡ false = elim (eqb_tells e.1.entry.0 q) [
       | inl y ↦ let bad : true ≡ false = sym (eq-eqb q e.1.entry.0 (sym y.1)) ∙ apart.0 in absurd (cc)
       | inr n ↦ n.0
@@ -131,7 +127,7 @@ has_ticket q (e ∷ ts) = elim (eqb_tells e.1.entry.0 q) [
 ticket_last : (q t : ℕ) (l : Link) (ts : List (ℕ × Link)) → is_among (entries (values_of ts)) l.entry.0 ≡ false → ticket_of q (ts ++ (t, l) ∷ []) ≡ cond (nat_eq l.entry.0 q) (Some t) (ticket_of q ts)
 ticket_last q t l [] fresh = refl
 ticket_last q t l (e ∷ ts) fresh =
-    let apart = neither (l.entry.0 == e.1.entry.0) (is_among (entries (values_of ts)) l.entry.0) fresh in
+    let apart = or_parts (l.entry.0 == e.1.entry.0) (is_among (entries (values_of ts)) l.entry.0) fresh in
     elim (cases_Bool (is_of q e.1)) [
       | inl is ↦
           let same : e.1.entry.0 ≡ q = eqb-true e.1.entry.0 q is in
@@ -177,7 +173,7 @@ turn_of q t (e ∷ ts) rise at = elim (cases_Bool (is_of q e.1)) [
 pub none_without : (q : ℕ) (ls : List Link) → is_among (entries ls) q ≡ false → ls ≡ without q ls
 none_without q [] none = refl
 none_without q (l ∷ ls) none =
-    let apart = neither (q == l.entry.0) (is_among (entries ls) q) none in
+    let apart = or_parts (q == l.entry.0) (is_among (entries ls) q) none in
     let off : is_of q l ≡ false = elim (eqb_tells l.entry.0 q) [
       | inl y ↦ let bad : true ≡ false = sym (eq-eqb q l.entry.0 (sym y.1)) ∙ apart.0 in absurd (cc)
       | inr n ↦ n.0

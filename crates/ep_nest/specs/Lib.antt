@@ -5,7 +5,6 @@ pub mod Depths
 pub mod Marks
 pub mod Adjacent
 pub mod Storage
-pub mod Walk
+pub mod Traversal
 pub mod Graph
-pub mod Ascent
 pub mod Descent

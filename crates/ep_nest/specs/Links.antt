@@ -28,10 +28,6 @@ starting_at way k ls = filter (starts_at way k) ls
 abbrev pub ends : Way → List Link → List ℕ
 ends way ls = map (λ l. (ends_of way l).1) ls
 
--- and where they come from, upwards
-abbrev pub outers : List Link → List ℕ
-outers ls = ends Up ls
-
 -- the pairs of which the machine's is_legal speaks
 abbrev pub edges : List Link → List (ℕ × ℕ)
 edges ls = along Down ls

@@ -11,7 +11,7 @@ ghost use Rattle.ep_nest.specs.declared.link.Link.{Link as Tie};
 use crate::link::{Link, Way};
 use crate::links::Links;
 use crate::longest::{LONGEST, longest};
-use crate::walk::Walk;
+use crate::traversal::Traversal;
 use ep_base::{DescId, LONGEST_CHAIN};
 use std::alloc::{AllocError, Allocator};
 
@@ -172,7 +172,7 @@ pub fn are_too_deep<A: Allocator>(
     depths: &Depths<A>,
     outer: DescId,
     inner: DescId,
-    walk: &mut Walk<A>,
+    walk: &mut Traversal<A>,
 ) -> bool
     requires kept { IsKept links.now walk.old }
     requires deep { AreDeep links.now depths.now }

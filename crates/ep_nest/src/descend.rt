@@ -5,18 +5,18 @@ ghost use Rattle.ep_machine.specs.Lists.{are_distinct, is_among};
 ghost use Rattle.ep_nest.specs.Descent.{AreBeneath};
 ghost use Rattle.ep_nest.specs.Links.{ends, keys, starting_at};
 ghost use Rattle.ep_nest.specs.Marks.{AreNoted};
-ghost use Rattle.ep_nest.specs.Walk.{HasRoom, IsClear};
+ghost use Rattle.ep_nest.specs.Traversal.{HasRoom, IsClear};
 ghost use Rattle.ep_nest.specs.declared.link.Way.TheVariants.{Down as Downwards};
 
 use crate::link::Way;
 use crate::links::Links;
 use crate::reach::{note_each, unmark};
-use crate::walk::Walk;
+use crate::traversal::Traversal;
 use ep_base::DescId;
 use std::alloc::Allocator;
 
 /// Notes the instances that an instance watches.
-fn go_down<A: Allocator>(links: &Links<A>, outer: DescId, walk: &mut Walk<A>)
+fn go_down<A: Allocator>(links: &Links<A>, outer: DescId, walk: &mut Traversal<A>)
     requires room { HasRoom links.now walk.old }
     requires noted { AreNoted walk.old.marks.items (keys walk.old.reached.items) }
     ensures exact { (x : ℕ) → is_among (keys walk.new.reached.items) x
@@ -39,7 +39,7 @@ fn go_down<A: Allocator>(links: &Links<A>, outer: DescId, walk: &mut Walk<A>)
 
 /// Finds the instances, each once, to which a chain of links leads down from one.
 /// It looks at the links from that one and from those it finds.
-pub fn descend<A: Allocator>(links: &Links<A>, above: DescId, walk: &mut Walk<A>)
+pub fn descend<A: Allocator>(links: &Links<A>, above: DescId, walk: &mut Traversal<A>)
     requires room { HasRoom links.now walk.old }
     requires clear { IsClear walk.old }
     ensures exact { AreBeneath links.now above.0 (keys walk.new.reached.items) }

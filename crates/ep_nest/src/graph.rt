@@ -1,25 +1,24 @@
 //! The graph.
-ghost use Rattle.std.specs.Prelude.{◌≡◌, ◌==◌, ◌++◌, ◌∷◌, ◌↔◌, [], IfErr, IsOk, OnErr, OnOk, false, filter, not, true, ⊤};
+ghost use Rattle.std.specs.Prelude.{◌≡◌, ◌==◌, ◌++◌, ◌∷◌, ◌↔◌, [], IfErr, IfNone, IfSome, IsOk, OnErr, OnOk, false, filter, not, true, ⊤};
 ghost use Rattle.std.specs.Borrow.{follows_so, sem};
 ghost use Rattle.std.specs.List.{list_any};
 ghost use Rattle.std.specs.Map.Iter.{ShowsInOrder, deref};
 ghost use mathlib.Core.Option.{none};
 ghost use Rattle.ep_machine.specs.Lists.{are_distinct, is_among};
 ghost use Rattle.ep_machine.specs.Watches.{is_legal};
-ghost use Rattle.ep_nest.specs.Ascent.{Finds};
 ghost use Rattle.ep_nest.specs.Chains.{IsLegalGraph};
 ghost use Rattle.ep_nest.specs.Descent.{AreBeneath};
 ghost use Rattle.ep_nest.specs.Graph.{IsKept};
-ghost use Rattle.ep_nest.specs.Links.{edges, entries, is_apart_from, is_between, keys, starts_at, without};
+ghost use Rattle.ep_nest.specs.Links.{edges, entries, is_apart_from, is_between, keys, starting_at, starts_at, without};
 ghost use Rattle.ep_nest.specs.contracts.graph.Graph.{the_row};
 ghost use Rattle.ep_nest.specs.declared.link.Link.{Link as Tie};
+ghost use Rattle.ep_nest.specs.declared.link.Way.TheVariants.{Up as Upwards};
 
-use crate::ascend::ascend;
 use crate::depths::{Depths, are_too_deep};
 use crate::descend::descend;
 use crate::link::{Link, Way};
 use crate::links::Links;
-use crate::walk::Walk;
+use crate::traversal::Traversal;
 use ep_base::{DescId, EntryId, Errno};
 use std::alloc::{AllocError, Allocator, Global};
 use std::collections::btree_map::Values;
@@ -32,13 +31,14 @@ use std::marker::Model;
 #[derive(Drop)]
 pub struct Graph<A: Allocator = Global> {
     links: Links<A>,
-    walk: Walk<A>,
+    walk: Traversal<A>,
     depths: Depths<A>,
 }
 
 impl<A: Allocator> Model for Graph<A> {
     ghost use Rattle.std.specs.Prelude.{List};
     ghost use Rattle.ep_nest.specs.declared.link.Link.{Link as Tie};
+    ghost use Rattle.ep_nest.specs.declared.link.Way.TheVariants.{Up as Upwards};
     ghost use Rattle.ep_nest.specs.Graph.{IsGraph};
 
     ghost Value = { List Tie };
@@ -56,7 +56,12 @@ fn leads_to(links: &[Link], inner: DescId) -> bool
 }
 
 /// Whether an instance watches another. It looks at the links of the one that watches.
-fn watches<A: Allocator>(links: &Links<A>, outer: DescId, inner: DescId, walk: &mut Walk<A>) -> bool
+fn watches<A: Allocator>(
+    links: &Links<A>,
+    outer: DescId,
+    inner: DescId,
+    walk: &mut Traversal<A>,
+) -> bool
     requires kept { IsKept links.now walk.old }
     ensures exact { result ≡ list_any (is_between outer.0 inner.0) links.now }
     ensures kept { IsKept links.now walk.new }
@@ -84,7 +89,7 @@ impl<A: Allocator> Graph<A> {
     {
         Graph {
             links: Links::new(alloc),
-            walk: Walk::new(alloc),
+            walk: Traversal::new(alloc),
             depths: Depths::new(alloc),
         }
     }
@@ -133,7 +138,7 @@ impl<A: Allocator> Graph<A> {
     }
 
     /// Adds the link of an entry that has none, between instances that `may_add` allows. It takes all room that
-    /// `above` needs, and is the only growth. `AllocError` where memory was refused, or after 2^64 - 1 links, and
+    /// `beneath` needs, and is the only growth. `AllocError` where memory was refused, or after 2^64 - 1 links, and
     /// then the graph is as it was. Its cost grows as the logarithm of the number of links, but where a table grows or
     /// a longer chain begins. Then it may look at the links above `outer` and below `inner`, at each four times at
     /// most. All calls together look at a link so eight times at most while it is there.
@@ -179,18 +184,15 @@ impl<A: Allocator> Graph<A> {
         self.depths.forget(instance);
     }
 
-    /// The instances, each once, from which a chain of links that `passes` admits leads down to one.
-    /// It asks once about each link to `inner` and to what it finds, and about no other. It takes no memory,
-    /// and its cost grows as the number of these links.
-    pub fn above<F: Fn(EntryId) -> bool>(&mut self, inner: DescId, passes: &F) -> &[DescId]
-        requires { F.IsAlwaysCallable passes.now }
-        ensures* stays { sem 𝓛 (follows_so (the_row A.row A.Allocator) (the_row A.row A.Allocator)
-            self.entry.ghost_name none (λ _ _. ⊤) (λ v. v ≡ self.old)) }
-        ensures exact { Finds (λ e b. F.post passes.now e b) self.old inner.0 (keys result.now) }
-        ensures once { are_distinct (keys result.now) ≡ true }
+    /// The links to an instance, in the order in which they were made; `None` if it never had one. It takes no memory,
+    /// and looks at no other link.
+    pub fn links_to(&self, inner: DescId) -> Option<Values<'_, u64, Link>>
+        ensures some { IfSome result (λ links. links ≡ starting_at Upwards inner.0 self.now) }
+        ensures none { IfNone result (starting_at Upwards inner.0 self.now ≡ []) }
+        ensures runs { IfSome result (λ _. ShowsInOrder (deref {X = Tie})) }
     {
-        ascend(&self.links, inner, passes, &mut self.walk);
-        &self.walk.reached
+        let _marks = &self.walk.marks;
+        self.links.turns(Way::Up, inner)
     }
 
     /// The instances, each once, to which a chain of links leads down from one. It looks once at each link from `outer`

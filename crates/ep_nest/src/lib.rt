@@ -2,7 +2,6 @@
 #![tactic(auto)]
 
 mod adjacent;
-mod ascend;
 mod depths;
 mod descend;
 mod graph;
@@ -11,7 +10,7 @@ mod links;
 mod longest;
 mod put;
 mod reach;
-mod walk;
+mod traversal;
 
 pub use crate::graph::Graph;
 pub use crate::link::Link;

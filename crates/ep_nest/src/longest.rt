@@ -5,12 +5,12 @@ ghost use Rattle.ep_nest.specs.Chains.{IsShort};
 ghost use Rattle.ep_nest.specs.Lengths.{IsLongest, NextLevel};
 ghost use Rattle.ep_nest.specs.Links.{along, edges, ends, keys, starting_at};
 ghost use Rattle.ep_nest.specs.Marks.{AreNoted};
-ghost use Rattle.ep_nest.specs.Walk.{HasRoom, IsClear};
+ghost use Rattle.ep_nest.specs.Traversal.{HasRoom, IsClear};
 
 use crate::link::Way;
 use crate::links::Links;
 use crate::reach::{note_each, unmark};
-use crate::walk::Walk;
+use crate::traversal::Traversal;
 use ep_base::{DescId, LONGEST_CHAIN};
 use std::alloc::Allocator;
 use std::mem;
@@ -19,7 +19,7 @@ use std::mem;
 pub const LONGEST: u8 = LONGEST_CHAIN - 1;
 
 /// Notes the instances to which the links lead that start at one.
-fn reach_ends<A: Allocator>(links: &Links<A>, way: Way, start: DescId, walk: &mut Walk<A>)
+fn reach_ends<A: Allocator>(links: &Links<A>, way: Way, start: DescId, walk: &mut Traversal<A>)
     requires room { HasRoom links.now walk.old }
     requires noted { AreNoted walk.old.marks.items (keys walk.old.reached.items) }
     ensures exact { (x : ℕ) → is_among (keys walk.new.reached.items) x
@@ -34,7 +34,7 @@ fn reach_ends<A: Allocator>(links: &Links<A>, way: Way, start: DescId, walk: &mu
 }
 
 /// From the instances of a level to those to which their links lead.
-fn go_on<A: Allocator>(links: &Links<A>, way: Way, walk: &mut Walk<A>)
+fn go_on<A: Allocator>(links: &Links<A>, way: Way, walk: &mut Traversal<A>)
     requires room { HasRoom links.now walk.old }
     requires noted { AreNoted walk.old.marks.items (keys walk.old.reached.items) }
     ensures exact { NextLevel (along way links.now) (keys walk.old.reached.items)
@@ -55,7 +55,12 @@ fn go_on<A: Allocator>(links: &Links<A>, way: Way, walk: &mut Walk<A>)
 
 /// How many links the longest chain has that starts at an instance. It looks at the links of what it reaches, at
 /// those of one instance once in each level, and there are as many levels as links in a chain.
-pub fn longest<A: Allocator>(links: &Links<A>, way: Way, start: DescId, walk: &mut Walk<A>) -> u8
+pub fn longest<A: Allocator>(
+    links: &Links<A>,
+    way: Way,
+    start: DescId,
+    walk: &mut Traversal<A>,
+) -> u8
     requires short { IsShort (edges links.now) }
     requires room { HasRoom links.now walk.old }
     requires clear { IsClear walk.old }

@@ -31,7 +31,7 @@ returns-clause-closed c =
     let k = c.parts.inside in
     let closed = subst (λ (q : Parts). IsClosed (open_edges q.interest q.graph) c.args.reached.now.reached) (sym c.parts.view_is) c.requires.vain.closed in
     subst (λ (q : Parts). IsClosed (open_edges q.interest q.graph) c.ascend.new.reached.reached) c.parts.view_is
-    (ascends_closed (open_edges k.interest k.graph) c.entry.result.now.instance.0 c.args.reached.now c.ascend.new.reached closed c.ascend.ensures.exact)
+    (ascends_closed (open_edges k.interest k.graph) c.entry.result.now.instance.0 c.args.reached.now c.ascend.new.reached closed c.ascend.ensures)
 
 pub returns-clause-exact : goal.returns-clause-exact
 returns-clause-exact c =
@@ -42,4 +42,4 @@ returns-clause-exact c =
     let under = ap (entry_found k.interest.entries) c.entry.ensures.number ∙ c.entry.ensures.entry in
     let vain = subst (λ (q : Parts). list_any (awaited_key q.tables q.clock q.interest q.parked) c.args.reached.now.reached ≡ false) (sym c.parts.view_is) c.requires.vain.none in
     subst (λ (q : Parts). list_any (awaited_key q.tables q.clock q.interest q.parked) c.ascend.new.reached.reached ≡ finds_key q.tables q.clock q.interest q.parked c.args.id.0) c.parts.view_is
-    (climb_exact p c.parts.invariant tables c.known-2.ensures c.known-3.ensures.legal instances c.args.id c.entry.result.now under c.args.reached.now c.ascend.new.reached c.ascend.ensures.exact vain)
+    (climb_exact p c.parts.invariant tables c.known-2.ensures c.known-3.ensures.legal instances c.args.id c.entry.result.now under c.args.reached.now c.ascend.new.reached c.ascend.ensures vain)

@@ -6,8 +6,7 @@ use Rattle.ep_choice.proofs.loose.reach_loose.Given as goal
 
 abbrev pub invariant-loop-index : goal.invariant-loop-index
 invariant-loop-index l = record {
-  inside : l.parts-inside ≡ l.initial.parts-inside;
   room : l.reached.room ≡ l.fn.reached.room;
-  closed : IsClosed (edges l.initial.parts-inside.graph) l.reached.reached;
-  above : AreAbove (edges l.initial.parts-inside.graph) (take l.index l.lost.reached) l.reached.reached;
+  closed : IsClosed (edges l.parts.graph) l.reached.reached;
+  above : AreAbove (edges l.parts.graph) (take l.index l.lost.reached) l.reached.reached;
 }

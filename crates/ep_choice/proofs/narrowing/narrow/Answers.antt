@@ -1,6 +1,6 @@
-use Rattle.std.proofs.Common.{◌≡◌, ◌∙◌, ◌+◌, ◌++◌, ◌∷◌, [], ◌<◌, ℕ, IsSome, List, ap, arith, length, nat_lt, refl, subst, sym, take, take_all, true}
-use Rattle.std.proofs.lemmas.Bool.Decides.{nat_tests}
+use Rattle.std.proofs.Common.{◌≡◌, ◌∙◌, ◌+◌, ◌++◌, ◌∷◌, [], ◌<◌, ℕ, IsSome, List, ap, arith, length, refl, subst, sym, take, take_all}
 use Rattle.std.proofs.lemmas.List.{take_more}
+use Rattle.ep_facts.proofs.NatFacts.{is_positive}
 use Rattle.ep_calls.proofs.EntryLemmas.{holds_under, key_of}
 use Rattle.ep_calls.specs.Parts.{Parts}
 use Rattle.ep_calls.specs.Stands.{AreLinked, IsLinked}
@@ -9,14 +9,10 @@ use Rattle.ep_choice.proofs.NarrowLemmas.{Narrows, narrows_begins, narrows_end, 
 use Rattle.ep_choice.proofs.WalkLemmas.{among_place, at_place}
 use Rattle.ep_choice.specs.Answers.{AreAnswers}
 use Rattle.ep_choice.specs.Narrow.{AreTargets, HaveTargets}
-use Rattle.ep_choice.specs.Choose.{IsVain, chosen_number}
 use Rattle.ep_interest.specs.Registrations.{IsSound}
-use Rattle.ep_ready.specs.Walk.{Walk}
+use Rattle.ep_walk.specs.Walk.{Walk}
 use Rattle.ep_table.specs.Value.{number_under}
 use Rattle.ep_choice.proofs.narrowing.narrow.Goals as goal
-
-is_positive : (n : ℕ) → 0 < n → nat_lt 0 n ≡ true
-is_positive n h = grind (arith, nat_tests, h)
 
 not_below_none : (i : ℕ) → i < 0 → ⊥
 not_below_none i h = omega (arith, h)
@@ -35,8 +31,8 @@ loop-index-init g c =
       knows = c.requires.knows;
     }
 
-pub choose-chosen-requires-clause-live : goal.choose-chosen-requires-clause-live
-choose-chosen-requires-clause-live g c =
+pub choose_exclusive-chosen-requires-clause-live : goal.choose_exclusive-chosen-requires-clause-live
+choose_exclusive-chosen-requires-clause-live g c =
     let p = c.args.parts.now in
     let ks = c.reach_targets.new.targets.reached in
     let k = c.at.result in
@@ -47,26 +43,26 @@ choose-chosen-requires-clause-live g c =
     subst (λ (q : Parts). IsSome (number_under q.tables (record { 0 = k }))) (sym c.loop-index.invariant.narrows.others)
     (subst (λ (m : ℕ). IsSome (number_under p.tables (record { 0 = m }))) at.3 link.desc)
 
-pub choose-chosen-requires-clause-instances : goal.choose-chosen-requires-clause-instances
-choose-chosen-requires-clause-instances g c =
+pub choose_exclusive-chosen-requires-clause-instances : goal.choose_exclusive-chosen-requires-clause-instances
+choose_exclusive-chosen-requires-clause-instances g c =
     let p = c.args.parts.now in
     let ks = c.reach_targets.new.targets.reached in
     let linked = subst (λ (q : Parts). AreLinked q.tables q.interest) c.parts.view_is c.parts.invariant.linked in
     narrows_instances p c.args.step c.known.ensures.sound (is_positive c.args.step c.requires.step) linked (take c.loop-index.index ks) c.loop-index.parts c.loop-index.invariant.narrows c.requires.instances
 
-pub choose-chosen-requires-clause-room : goal.choose-chosen-requires-clause-room
-choose-chosen-requires-clause-room g c =
+pub choose_exclusive-chosen-requires-clause-room : goal.choose_exclusive-chosen-requires-clause-room
+choose_exclusive-chosen-requires-clause-room g c =
     let p = c.args.parts.now in
     let ks = c.reach_targets.new.targets.reached in
     let linked = subst (λ (q : Parts). AreLinked q.tables q.interest) c.parts.view_is c.parts.invariant.linked in
     let roomy = narrows_roomy p c.args.step c.known.ensures.sound (is_positive c.args.step c.requires.step) linked (take c.loop-index.index ks) c.loop-index.parts c.args.reached.now c.loop-index.invariant.narrows c.requires.room in
     λ id x under. subst (λ (m : ℕ). x.instance.0 < m) (sym c.loop-index.invariant.room) (roomy id x under)
 
-pub choose-chosen-requires-clause-vain : goal.choose-chosen-requires-clause-vain
-choose-chosen-requires-clause-vain g c = c.loop-index.invariant.vain (omega (arith, c.loop-index-test.true, c.count-index-end.ensures))
+pub choose_exclusive-chosen-requires-clause-vain : goal.choose_exclusive-chosen-requires-clause-vain
+choose_exclusive-chosen-requires-clause-vain g c = c.loop-index.invariant.vain (omega (arith, c.loop-index-test.true, c.count-index-end.ensures))
 
-pub choose-chosen-requires-clause-keys : goal.choose-chosen-requires-clause-keys
-choose-chosen-requires-clause-keys g c =
+pub choose_exclusive-chosen-requires-clause-keys : goal.choose_exclusive-chosen-requires-clause-keys
+choose_exclusive-chosen-requires-clause-keys g c =
     let p = c.args.parts.now in
     let ks = c.reach_targets.new.targets.reached in
     let linked = subst (λ (q : Parts). AreLinked q.tables q.interest) c.parts.view_is c.parts.invariant.linked in
@@ -80,7 +76,7 @@ loop-index-preserved g c =
     let ks = c.reach_targets.new.targets.reached in
     let i = c.loop-index.index in
     let k = c.at.result in
-    let mid = c.choose-chosen.new.parts in
+    let mid = c.loop-index.parts in
     let new = c.keep.new.parts in
     let linked = subst (λ (q : Parts). AreLinked q.tables q.interest) c.parts.view_is c.parts.invariant.linked in
     let sound = subst (λ (q : Parts). AreTargets q.interest ks) c.parts.view_is c.reach_targets.ensures.sound in
@@ -88,28 +84,26 @@ loop-index-preserved g c =
     let at = sound k (among_place ks i k lt c.at.ensures) in
     let link = holds_under (IsLinked p.tables.keys) p.interest at.0 at.1 linked at.2 in
     let live = subst (λ (m : ℕ). IsSome (number_under p.tables (record { 0 = m }))) at.3 link.desc in
-    let before = subst (Narrows p n (take i ks)) (sym c.choose-chosen.ensures.parts) c.loop-index.invariant.narrows in
     let more : take (i + 1) ks ≡ take i ks ++ k ∷ [] = take_more ks i 0 lt ∙ ap (λ (m : ℕ). take i ks ++ m ∷ []) (at_place ks i k c.at.ensures) in
-    let choice = c.choose-chosen.ensures.exact ∙ ap (λ (q : Parts). chosen_number q.tables q.clock q.interest q.parked n (record { 0 = k })) (sym c.choose-chosen.ensures.parts) in
     record {
       narrows =
           subst (λ (ds : List ℕ). Narrows p n ds new) (sym more)
-          (narrows_on p n c.known.ensures.sound (is_positive n c.requires.step) linked (take i ks) (record { 0 = k }) mid new c.choose-chosen.result live before choice
+          (narrows_on p n c.known.ensures.sound (is_positive n c.requires.step) linked (take i ks) (record { 0 = k }) mid new c.choose_exclusive-chosen.result live c.loop-index.invariant.narrows c.choose_exclusive-chosen.ensures.exact
           c.keep.ensures.entries c.keep.ensures.keys c.keep.ensures.added c.keep.ensures.next c.keep.ensures.others);
-      room = c.choose-chosen.ensures.room ∙ c.loop-index.invariant.room;
-      keys = c.choose-chosen.ensures.keys ∙ c.loop-index.invariant.keys;
+      room = c.choose_exclusive-chosen.ensures.room ∙ c.loop-index.invariant.room;
+      keys = c.choose_exclusive-chosen.ensures.keys ∙ c.loop-index.invariant.keys;
       vain = λ lt.
-          vain_kept mid new (record { 0 = k }) c.choose-chosen.result c.choose-chosen.new.reached.reached c.keep.ensures.entries c.keep.ensures.keys c.keep.ensures.others
-          (subst (λ (q : Parts). IsVain q c.choose-chosen.new.reached.reached) (sym c.choose-chosen.ensures.parts) c.choose-chosen.ensures.vain);
+          vain_kept mid new (record { 0 = k }) c.choose_exclusive-chosen.result c.choose_exclusive-chosen.new.reached.reached c.keep.ensures.entries c.keep.ensures.keys c.keep.ensures.others
+          c.choose_exclusive-chosen.ensures.vain;
       answers =
-          subst (λ (q : Parts). AreAnswers q.tables q.clock new.interest q.parked c.choose-chosen.new.candidates) (sym c.keep.ensures.others)
-          (answers_kept mid.tables mid.clock mid.interest new.interest mid.parked (record { 0 = k }) c.choose-chosen.result c.keep.ensures.entries c.choose-chosen.new.candidates
-          (subst (λ (q : Parts). AreAnswers q.tables q.clock q.interest q.parked c.choose-chosen.new.candidates) (sym c.choose-chosen.ensures.parts) c.choose-chosen.ensures.answers));
+          subst (λ (q : Parts). AreAnswers q.tables q.clock new.interest q.parked c.choose_exclusive-chosen.new.candidates) (sym c.keep.ensures.others)
+          (answers_kept mid.tables mid.clock mid.interest new.interest mid.parked (record { 0 = k }) c.choose_exclusive-chosen.result c.keep.ensures.entries c.choose_exclusive-chosen.new.candidates
+          c.choose_exclusive-chosen.ensures.answers);
       idle = λ none. absurd (not_below_none i (subst (λ (m : ℕ). i < m) (ap length none) lt));
       knows =
-          subst (λ (q : Parts). g.R.Readiness.knows c.choose-chosen.new.ready q.tables q.clock new.interest) (sym c.keep.ensures.others)
-          (c.requires.lasts c.choose-chosen.new.ready mid.tables mid.clock mid.interest new.interest (record { 0 = k }) c.choose-chosen.result c.keep.ensures.entries c.keep.ensures.keys c.keep.ensures.added c.keep.ensures.next
-          (subst (λ (q : Parts). g.R.Readiness.knows c.choose-chosen.new.ready q.tables q.clock q.interest) (sym c.choose-chosen.ensures.parts) c.choose-chosen.ensures.knows));
+          subst (λ (q : Parts). g.R.Readiness.knows c.choose_exclusive-chosen.new.ready q.tables q.clock new.interest) (sym c.keep.ensures.others)
+          (c.requires.lasts c.choose_exclusive-chosen.new.ready mid.tables mid.clock mid.interest new.interest (record { 0 = k }) c.choose_exclusive-chosen.result c.keep.ensures.entries c.keep.ensures.keys c.keep.ensures.added c.keep.ensures.next
+          c.choose_exclusive-chosen.ensures.knows);
     }
 
 pub returns-clause-watches : goal.returns-clause-watches

@@ -21,11 +21,11 @@ walk-requires-clause-home c =
     (subst (λ (q : Parts). AreRoomy q.interest c.args.reached.now) (sym c.parts.view_is) c.requires.room))
 
 pub returns-clause-room : goal.returns-clause-room
-returns-clause-room c = c.walk.ensures.exact.room ∙ c.forget.ensures.room
+returns-clause-room c = c.walk.ensures.room ∙ c.forget.ensures.room
 
 pub returns-clause-reached : goal.returns-clause-reached
 returns-clause-reached c =
     let k = c.parts.inside in
     let tables = subst (λ (q : Parts). Sound q.tables) (sym c.parts.view_is) c.known.ensures.sound in
     subst (λ (q : Parts). AreReached c.args.step q.tables q.interest c.walk.new.reached.reached) c.parts.view_is
-    (are_reached k.tables tables k.interest c.known-2.ensures c.parts.invariant.linked k.graph c.parts.invariant.nested c.known-3.ensures.legal c.args.step c.forget.new.self c.walk.new.reached c.walk.ensures.exact)
+    (are_reached k.tables tables k.interest c.known-2.ensures c.parts.invariant.linked k.graph c.parts.invariant.nested c.known-3.ensures.legal c.args.step c.forget.new.self c.walk.new.reached c.walk.ensures)

@@ -1,9 +1,8 @@
 use Rattle.std.proofs.Common.{length, vec_len, ◌-◌, ◌≤◌}
-use Rattle.ep_nest.proofs.AscentLemmas.{seen_to}
-use Rattle.ep_nest.proofs.DescentLemmas.{Descends}
+use Rattle.ep_nest.proofs.DescentLemmas.{Descends, seen_to}
 use Rattle.ep_nest.specs.Links.{keys}
 use Rattle.ep_nest.specs.Marks.{AreNoted}
-use Rattle.ep_nest.specs.Walk.{HasRoom}
+use Rattle.ep_nest.specs.Traversal.{HasRoom}
 use Rattle.ep_nest.proofs.descend.descend.Given as goal
 
 abbrev pub invariant-loop-done : goal.invariant-loop-done

@@ -28,7 +28,6 @@ loop-done-init g c =
       room = record {
         marks = subst (HasPlaces (edges ls)) (sym long) old.marks;
         gathered = old.gathered;
-        admitted = old.admitted;
         reached = omega (arith, long, deep, old.level);
         level = omega (arith, long, wide, old.reached);
       };

@@ -2,7 +2,7 @@ use Rattle.std.proofs.Common.{take, vec_len, ◌-◌, ◌≡◌, ◌≤◌}
 use Rattle.ep_nest.proofs.LevelLemmas.{AreReachedFrom}
 use Rattle.ep_nest.specs.Links.{keys}
 use Rattle.ep_nest.specs.Marks.{AreNoted}
-use Rattle.ep_nest.specs.Walk.{HasRoom}
+use Rattle.ep_nest.specs.Traversal.{HasRoom}
 use Rattle.ep_nest.proofs.longest.go_on.Given as goal
 
 abbrev pub invariant-loop-done : goal.invariant-loop-done

@@ -1,6 +1,7 @@
-use Rattle.std.proofs.Common.{List, ap, arith, eq-eqb, false, inl, inr, refl, subst, suc, sym, true, vec_len, ℕ, ◌+◌, ◌<◌, ◌∙◌, ◌≡◌, ◌==◌, ◌||◌}
-use Rattle.std.proofs.lemmas.Bool.{cases_eq, eqb-true}
+use Rattle.std.proofs.Common.{List, ap, arith, refl, subst, suc, sym, vec_len, ℕ, ◌+◌, ◌∙◌, ◌≡◌, ◌||◌}
+use Rattle.std.proofs.lemmas.Bool.{eqb-true}
 use Rattle.std.proofs.lemmas.List.{length-map, nil_from_length}
+use Rattle.ep_facts.proofs.NatFacts.{above_none}
 use Rattle.ep_base.specs.declared.ids.DescId.{DescId}
 use Rattle.ep_machine.specs.Lists.{is_among}
 use Rattle.ep_nest.proofs.LevelLemmas.{AreEnds, ended, first_ends, longest_of_all, next_ends, one_ends, short_along}
@@ -25,12 +26,6 @@ loop-length-init g c =
       room = c.reach_ends.ensures.room;
     }
 
-more_than_none : (n : ℕ) → (n == 0) ≡ false → 0 < n
-more_than_none n h = elim (cases_eq n 0) [
-  | inl none ↦ absurd (let bad : true ≡ false = sym (eq-eqb n 0 none) ∙ h in cc)
-  | inr some ↦ omega (arith, some)
-]
-
 pub loop-length-preserved : goal.loop-length-preserved
 loop-length-preserved g c =
     let es = along c.args.way c.args.links.now in
@@ -40,7 +35,7 @@ loop-length-preserved g c =
     let before = c.loop-length.walk.reached in
     let end = c.go_on.new.walk.reached.items in
     let long = length-map before.items (λ (d : DescId). d.0) in
-    let some = more_than_none (vec_len before) (sym c.is_empty.ensures ∙ c.if-not-is_empty.true) in
+    let some = above_none (vec_len before) (sym c.is_empty.ensures ∙ c.if-not-is_empty.true) in
     record {
       ends = subst (λ (m : ℕ). AreEnds es x (suc m) (keys end)) more (next_ends es x (suc n) (keys before.items) (keys end) c.loop-length.invariant.ends c.go_on.ensures.exact);
       chain =

@@ -3,7 +3,7 @@ use Rattle.ep_nest.proofs.LevelLemmas.{AreEnds}
 use Rattle.ep_nest.specs.Chains.{LeadsBy}
 use Rattle.ep_nest.specs.Links.{along, keys}
 use Rattle.ep_nest.specs.Marks.{AreNoted}
-use Rattle.ep_nest.specs.Walk.{HasRoom}
+use Rattle.ep_nest.specs.Traversal.{HasRoom}
 use Rattle.ep_nest.proofs.longest.longest.Given as goal
 
 abbrev pub invariant-loop-length : goal.invariant-loop-length

@@ -5,7 +5,7 @@ use Rattle.ep_nest.proofs.KeptLemmas.{kept_grown, kept_pushed, legal_pushed, pla
 use Rattle.ep_nest.specs.Graph.{IsGraph, IsKept}
 use Rattle.ep_nest.specs.Lengths.{HasPlaces}
 use Rattle.ep_nest.specs.Links.{edges}
-use Rattle.ep_nest.specs.Walk.{HasPlace}
+use Rattle.ep_nest.specs.Traversal.{HasPlace}
 use Rattle.ep_nest.specs.declared.link.Link.{Link}
 use Rattle.ep_nest.proofs.graph.Graph.link.Goals as goal
 

@@ -1,6 +1,6 @@
 use Rattle.std.proofs.Common.{ap, append_assoc, arith, false, length, replicate, ◌+◌, ◌++◌, ◌∙◌, ◌∷◌, []}
 use Rattle.std.proofs.lemmas.List.{length_push, replicate_more}
-use Rattle.ep_nest.proofs.walk.widen.Goals as goal
+use Rattle.ep_nest.proofs.traversal.widen.Goals as goal
 
 pub loop-marks-preserved : goal.loop-marks-preserved
 loop-marks-preserved g c =

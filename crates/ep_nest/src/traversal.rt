@@ -1,6 +1,6 @@
 //! The room of walks through the graph.
 ghost use Rattle.std.specs.Prelude.{◌≡◌, ◌++◌, ◌≤◌, ◌<◌, OnOk, [], false, length, replicate, vec_len, ℕ};
-ghost use Rattle.ep_nest.specs.Walk.{HasGrown, HasPlace};
+ghost use Rattle.ep_nest.specs.Traversal.{HasGrown, HasPlace};
 
 use crate::link::Link;
 use ep_base::DescId;
@@ -8,13 +8,11 @@ use std::alloc::{AllocError, Allocator};
 
 /// A mark for each instance, and lists that a walk fills.
 #[derive(Drop)]
-pub struct Walk<A: Allocator> {
+pub struct Traversal<A: Allocator> {
     /// Whether the walk has reached the instance; between walks none is marked.
     pub marks: Vec<bool, A>,
     /// The links that start at one instance.
     pub gathered: Vec<Link, A>,
-    /// Those of them that a walk follows.
-    pub admitted: Vec<Link, A>,
     /// The instances that a walk found.
     pub reached: Vec<DescId, A>,
     /// The instances from which a walk goes on.
@@ -33,17 +31,16 @@ fn widen<A: Allocator>(marks: &mut Vec<bool, A>, key: usize) -> Result<(), Alloc
     Ok(())
 }
 
-impl<A: Allocator> Walk<A> {
+impl<A: Allocator> Traversal<A> {
     /// No marks and no room, which takes no memory.
-    pub fn new(alloc: A) -> Walk<A>
+    pub fn new(alloc: A) -> Traversal<A>
     where
         A: Copy,
         ensures { result.marks.items ≡ [] }
     {
-        Walk {
+        Traversal {
             marks: Vec::new(alloc),
             gathered: Vec::new(alloc),
-            admitted: Vec::new(alloc),
             reached: Vec::new(alloc),
             level: Vec::new(alloc),
         }
@@ -56,8 +53,6 @@ impl<A: Allocator> Walk<A> {
     {
         self.gathered.clear();
         self.gathered.reserve(many)?;
-        self.admitted.clear();
-        self.admitted.reserve(many)?;
         let most = key.checked_add(1).ok_or(AllocError)?.max(self.marks.len());
         self.reached.clear();
         self.reached.reserve(most)?;

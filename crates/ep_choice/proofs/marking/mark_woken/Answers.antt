@@ -4,9 +4,9 @@ use Rattle.ep_choice.proofs.MarkingLemmas.{Woke, above_no, marked_at_end, none_l
 use Rattle.ep_choice.specs.declared.choice.Choice.{Choice}
 use Rattle.ep_interest.specs.Exclusive.{is_exclusive}
 use Rattle.ep_nest.specs.Links.{edges}
-use Rattle.ep_ready.specs.Walk.{Walk}
-use Rattle.ep_choice.proofs.marking.mark.Goals as goal
-use Rattle.ep_choice.proofs.marking.mark.Goals.{else-guards-gt0, then-guards-gt0}
+use Rattle.ep_walk.specs.Walk.{Walk}
+use Rattle.ep_choice.proofs.marking.mark_woken.Goals as goal
+use Rattle.ep_choice.proofs.marking.mark_woken.Goals.{else-guards-gt0, then-guards-gt0}
 
 pub returns-then-count-gt0-clause-marks : goal.returns-then-count-gt0-clause-marks
 returns-then-count-gt0-clause-marks g c =

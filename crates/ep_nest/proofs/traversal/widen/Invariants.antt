@@ -1,5 +1,5 @@
 use Rattle.std.proofs.Common.{false, length, replicate, vec_len, ℕ, ◌+◌, ◌++◌, ◌-◌, ◌<◌, ◌≡◌, ◌≤◌}
-use Rattle.ep_nest.proofs.walk.widen.Given as goal
+use Rattle.ep_nest.proofs.traversal.widen.Given as goal
 
 abbrev pub invariant-loop-marks : goal.invariant-loop-marks
 invariant-loop-marks g l = record {
