@@ -1,19 +1,22 @@
 -- One registration is asked.
 use Rattle.std.proofs.Common.{◌≡◌, ◌≢◌, ◌<◌, ◌≤◌, ◌==◌, ◌||◌, ◌&&◌, ◌∙◌, ◌⊎◌, ℕ, Bool, true, false, cond, length, List, [], ◌∷◌, ◌++◌, None, Option, Some, ap, append-nil, arith, inl, inr, is_some, nat_lt, not, refl, subst, sym}
 use Rattle.std.proofs.lemmas.Bool.{cases_Bool, cases_eq, false≢true}
+use Rattle.ep_facts.proofs.NatFacts.{from_test}
+use Rattle.ep_facts.proofs.AmongFacts.{among_last}
+use Rattle.ep_facts.proofs.OptionFacts.{some_same}
+use Rattle.ep_facts.proofs.BoolFacts.{from_not, from_not_false, or_nothing}
 use Rattle.ep_base.specs.declared.ids.EntryId.{EntryId}
 use Rattle.ep_dates.proofs.KeptLemmas.{AreOne, Changes, apart_one, begun_changes, ended_changes, event_else, event_here, kept_changed, same_one}
 use Rattle.ep_dates.proofs.OrderLemmas.{elsewhere, ended_rows, left, order_changed}
-use Rattle.ep_dates.proofs.RowLemmas.{end_here, row_else, row_here, some_first}
+use Rattle.ep_dates.proofs.RowLemmas.{row_else, row_here, some_first}
 use Rattle.ep_dates.proofs.TurnLemmas.{either_way, not_both, shows_kept, turns_none}
 use Rattle.ep_dates.specs.Ask.{AreTurned, Asks, Turns, shows_by, shows_over}
 use Rattle.ep_dates.specs.Dates.{Dates, begun, ended, event_at, is_dated, is_ready, noted}
 use Rattle.ep_dates.specs.Kept.{AreKept}
 use Rattle.ep_dates.specs.Order.{AreInTurn}
-use Rattle.ep_rings.proofs.FrontLemmas.{filter_gone}
+use Rattle.ep_rings.proofs.AmongLemmas.{filter_gone}
 use Rattle.ep_interest.specs.Registrations.{Registrations, entry_under}
 use Rattle.ep_interest.specs.declared.entry.Entry.{Entry}
-use Rattle.ep_law.proofs.TestLemmas.{from_test}
 use Rattle.ep_machine.specs.Lists.{is_among}
 use Rattle.ep_base.specs.declared.object.End.{End}
 use Rattle.ep_calls.proofs.EntryLemmas.{one_under, within as number_within}
@@ -26,7 +29,7 @@ use Rattle.ep_machine.specs.Files.{object_of, side_of}
 use Rattle.ep_machine.specs.Objects.{Object, instance}
 use Rattle.ep_machine.specs.Readiness.{present_of}
 use Rattle.ep_view.proofs.ClimbLemmas.{zero_asked}
-use Rattle.ep_ready.specs.Walk.{Walk, with_reached}
+use Rattle.ep_walk.specs.Walk.{Walk, with_reached}
 use Rattle.ep_rings.specs.PlacedRows.{PlacedRows, first_in, keys_at, with_key, with_row}
 
 not_twice : (way : Bool) → way ≡ not way → ⊥
@@ -81,13 +84,10 @@ is_noted way before after i w rises turned = elim (either_way before way) [
   ]
 ] where
   only : (j : ℕ) → is_among (i ∷ []) j ≡ true → j ≡ i
-  only j t = from_test j i (strip (j == i) t) where
-    strip : (b : Bool) → (b || false) ≡ true → b ≡ true
-    strip true h = refl
-    strip false h = h
+  only j t = from_test j i (or_nothing (j == i) t)
 
   one : is_among (i ∷ []) i ≡ true
-  one = end_here [] i
+  one = among_last [] i
 
 -- Readiness after a key joined or left a row.
 row_ready : (v : PlacedRows) (i : ℕ) (ks : List ℕ) → (j : ℕ) → j ≢ i → is_some (first_in (keys_at (with_row v i ks) j)) ≡ is_some (first_in (keys_at v j))
@@ -179,9 +179,6 @@ module _ (p : Parts) (sound : IsSound p.interest) (way : Bool) (n : ℕ) (id : E
   abbrev r : Registrations
   r = p.interest
 
-  some_is : (x y : Entry) → Some x ≡ Some y → x ≡ y
-  some_is x y e = cc
-
   key_is : (j : EntryId) → (j.0 == id.0) ≡ true → j ≡ id
   key_is j h = let e = from_test j.0 id.0 h in λ i. record { 0 = e i }
 
@@ -192,7 +189,7 @@ module _ (p : Parts) (sound : IsSound p.interest) (way : Bool) (n : ℕ) (id : E
 
   module _ (x : Entry) (at : entry_under r id ≡ Some x) where
     is_it : (j : EntryId) (y : Entry) → entry_under r j ≡ Some y → (j.0 == id.0) ≡ true → y ≡ x
-    is_it j y there h = some_is y x (sym there ∙ (ap (entry_under r) (key_is j h) ∙ at))
+    is_it j y there h = some_same y x (sym there ∙ (ap (entry_under r) (key_is j h) ∙ at))
 
     pub asked_same : is_dated d x ≡ way → Turned d
     asked_same dated =
@@ -217,16 +214,10 @@ other_truth false true h = refl
 other_truth false false h = absurd (false≢true (sym h))
 
 pub unlike : (a b : Bool) → not (beq a b) ≡ true → a ≡ not b
-unlike a b h = other_truth a b (turn (beq a b) h) where
-  turn : (c : Bool) → not c ≡ true → c ≡ false
-  turn true h = absurd (false≢true h)
-  turn false h = refl
+unlike a b h = other_truth a b (from_not (beq a b) h)
 
 pub alike : (a b : Bool) → not (beq a b) ≡ false → a ≡ b
-alike a b h = same_truth a b (turn (beq a b) h) where
-  turn : (c : Bool) → not c ≡ false → c ≡ true
-  turn true h = refl
-  turn false h = absurd (false≢true (sym h))
+alike a b h = same_truth a b (from_not_false (beq a b) h)
 
 -- It came to be reportable.
 module _ (p : Parts) (sound : IsSound p.interest) (n : ℕ) (up : nat_lt 0 n ≡ true) (id : EntryId) (d : Dates) (kept : AreKept p.interest d) (x : Entry) (at : entry_under p.interest id ≡ Some x) where
@@ -245,7 +236,7 @@ module _ (p : Parts) (sound : IsSound p.interest) (n : ℕ) (up : nat_lt 0 n ≡
   asked_begun turned was shown =
       turns_one true n p.interest (shows_over p) (shows_rises p) (one_under p.interest sound) (number_within p.interest sound) d kept turned id x at was shown n (begun n id x d)
       (begun_changes p.interest d kept id x at n up) up (λ t. refl) refl
-      (λ h. some_first (keys_at (with_key d.rows own id.0) own) id.0 (ap (λ (l : List ℕ). is_among l id.0) (row_here d.rows own (keys_at d.rows own ++ id.0 ∷ []) (kept.places id x at).row) ∙ end_here (keys_at d.rows own) id.0))
+      (λ h. some_first (keys_at (with_key d.rows own id.0) own) id.0 (ap (λ (l : List ℕ). is_among l id.0) (row_here d.rows own (keys_at d.rows own ++ id.0 ∷ []) (kept.places id x at).row) ∙ among_last (keys_at d.rows own) id.0))
       (λ j ne. row_ready d.rows own (keys_at d.rows own ++ id.0 ∷ []) j ne)
       (λ o. order_changed n p.interest (one_under p.interest sound) d kept o id x at n (begun n id x d) (begun_changes p.interest d kept id x at n up) (begun_rows was))
 

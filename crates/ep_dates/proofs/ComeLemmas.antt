@@ -1,7 +1,8 @@
 -- Some stages one way, and then what turned by them.
-use Rattle.std.proofs.Common.{◌≡◌, ◌++◌, ◌||◌, ◌∙◌, ◌⊎◌, Bool, List, [], ap, drop, false, inl, inr, length, refl, subst, sym, true, ℕ}
+use Rattle.std.proofs.Common.{◌≡◌, ◌++◌, ◌||◌, ◌∙◌, Bool, List, [], ap, drop, false, inl, inr, length, refl, subst, sym, true, ℕ}
 use Rattle.std.proofs.lemmas.Bool.{cases_Bool, false≢true}
 use Rattle.std.proofs.Math.Seq.{drop-append_seam}
+use Rattle.ep_facts.proofs.BoolFacts.{or_cases}
 use Rattle.ep_calls.specs.Parts.{Parts}
 use Rattle.ep_dates.proofs.AskLemmas.{shows_rises}
 use Rattle.ep_dates.proofs.EachLemmas.{fresh_is}
@@ -11,7 +12,7 @@ use Rattle.ep_dates.specs.Dates.{Dates}
 use Rattle.ep_dates.specs.Touched.{is_on_any, watches_any, watches_fresh}
 use Rattle.ep_interest.specs.Registrations.{entry_under}
 use Rattle.ep_machine.specs.Lists.{is_among}
-use Rattle.ep_ready.specs.Walk.{Walk}
+use Rattle.ep_walk.specs.Walk.{Walk}
 
 module _ (way : Bool) (n : ℕ) (p : Parts) where
   pub both_stages : (f g : ℕ → Bool) (a b c : Dates) → Asks way n p f a b → Asks way n p g b c → Asks way n p (λ k. f k || g k) a c
@@ -38,7 +39,7 @@ module _ (way : Bool) (n : ℕ) (p : Parts) where
   pub above_settled : (f : ℕ → Bool) (ks : List ℕ) (b c : Dates) (t : Asks way n p (watches_fresh p.interest b.turned.reached ks) b c) → AreSettled way p.interest (shows_over p) b [] f → AreWatched way p b b.turned.reached
       → AreSettled way p.interest (shows_over p) c (drop (length b.turned.reached) c.turned.reached) (λ k. f k || watches_any p.interest ks k)
   above_settled f ks b c t settled watched id x at h =
-      subst (λ (l : List ℕ). IsSettled way (shows_over p) c l x) (sym noted) (elim (or_either (f id.0) (watches_any p.interest ks id.0) h) [
+      subst (λ (l : List ℕ). IsSettled way (shows_over p) c l x) (sym noted) (elim (or_cases (f id.0) (watches_any p.interest ks id.0) h) [
         | inl early ↦ on (settled id x at early)
         | inr any ↦
             let there : is_among ks x.desc.0 ≡ true = sym (ap (is_on_any ks) at) ∙ any in
@@ -52,7 +53,3 @@ module _ (way : Bool) (n : ℕ) (p : Parts) where
 
         on : IsSettled way (shows_over p) b [] x → IsSettled way (shows_over p) c t.more x
         on s = settled_on way n p.interest (shows_over p) (shows_rises p) (watches_fresh p.interest b.turned.reached ks) b c t [] id x at s
-
-        or_either : (u v : Bool) → (u || v) ≡ true → (u ≡ true) ⊎ (v ≡ true)
-        or_either true v e = inl refl
-        or_either false v e = inr e

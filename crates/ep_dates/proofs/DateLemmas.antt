@@ -2,9 +2,10 @@
 use Rattle.std.proofs.Common.{◌≡◌, ◌==◌, ◌&&◌, ◌||◌, ◌∙◌, ◌⊎◌, ℕ, Bool, true, false, cond, IsSome, List, [], Some, ap, arith, inl, inr, nat_lt, refl, sym}
 use Rattle.std.proofs.lemmas.Bool.{cases_Bool, false≢true}
 use Rattle.std.proofs.lemmas.Bool.Decides.{nat_tests}
+use Rattle.ep_facts.proofs.BoolFacts.{same_bools}
+use Rattle.ep_facts.proofs.NatFacts.{zero_of}
 use Rattle.ep_base.specs.declared.ids.DescId.{DescId}
 use Rattle.ep_base.specs.declared.ids.EntryId.{EntryId}
-use Rattle.ep_calls.proofs.FindLemmas.{same_bools}
 use Rattle.ep_calls.specs.Climb.{is_nested}
 use Rattle.ep_calls.specs.Parking.{ready_key}
 use Rattle.ep_calls.specs.Parts.{AreCoherent, Parts}
@@ -20,7 +21,7 @@ use Rattle.ep_interest.specs.declared.entry.Entry.{Entry}
 use Rattle.ep_machine.specs.Lists.{is_among}
 use Rattle.ep_machine.specs.Watches.{is_legal}
 use Rattle.ep_nest.specs.Links.{edges}
-use Rattle.ep_rings.specs.KeyWalk.{id_at as key_of}
+use Rattle.ep_rings.specs.KeyWalk.{entry_id as key_of}
 use Rattle.ep_rings.specs.PlacedRows.{keys_at}
 use Rattle.ep_table.specs.Value.{Sound as SoundTables, number_under}
 
@@ -92,8 +93,6 @@ module _ (n : ℕ) (p : Parts) (coherent : AreCoherent p) (tables : SoundTables 
       (λ h. let found = ready_has p coherent tables sound legal i lives h in ap (is_ready c) (sym found.3) ∙ lists found.0 found.1 found.2 (forth found.0 found.1 found.2 found.4))
 
   -- Since which event.
-  none_is : (k : ℕ) → nat_lt 0 k ≡ false → k ≡ 0
-  none_is k h = grind (arith, nat_tests, h)
 
   some_is : (k : ℕ) → nat_lt 0 k ≡ true → (k == 0) ≡ false
   some_is k h = grind (arith, nat_tests, h)
@@ -112,7 +111,7 @@ module _ (n : ℕ) (p : Parts) (coherent : AreCoherent p) (tables : SoundTables 
     date_is id x at = renews.each id x at ∙ elim (cases_Bool (is_dated c x)) [
       | inr gone ↦
           ap (λ (f : Bool). cond (f && is_among reported x.number) n (event_at c.since x.number)) gone
-          ∙ (none_is (event_at c.since x.number) gone ∙ sym (ap (λ (f : Bool). date_of n f x.reported_in (event_at a.since x.number)) (sym (dated_is id x at) ∙ gone)))
+          ∙ (zero_of (event_at c.since x.number) gone ∙ sym (ap (λ (f : Bool). date_of n f x.reported_in (event_at a.since x.number)) (sym (dated_is id x at) ∙ gone)))
       | inl dated ↦
           let shows : shown x ≡ true = sym (dated_is id x at) ∙ dated in
           ap (λ (f : Bool). cond (f && is_among reported x.number) n (event_at c.since x.number)) dated
@@ -123,7 +122,7 @@ module _ (n : ℕ) (p : Parts) (coherent : AreCoherent p) (tables : SoundTables 
                 ∙ sym (ap (λ (f : Bool). cond (f || x.reported_in == n) n (event_at a.since x.number)) (some_is (event_at a.since x.number) old))
             | inr fresh ↦
                 ap (λ (e : ℕ). cond (x.reported_in == n) n e) (new_date id x at dated fresh)
-                ∙ (either (x.reported_in == n) ∙ sym (ap (λ (e : ℕ). cond (e == 0 || x.reported_in == n) n e) (none_is (event_at a.since x.number) fresh)))
+                ∙ (either (x.reported_in == n) ∙ sym (ap (λ (e : ℕ). cond (e == 0 || x.reported_in == n) n e) (zero_of (event_at a.since x.number) fresh)))
           ]
           ∙ sym (ap (λ (f : Bool). date_of n f x.reported_in (event_at a.since x.number)) shows)))
     ] where

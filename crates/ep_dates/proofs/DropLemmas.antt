@@ -1,16 +1,19 @@
 -- Registrations lose their dates, one after another.
-use Rattle.std.proofs.Common.{◌≡◌, ◌≢◌, ◌==◌, ◌||◌, ◌∙◌, ◌⊎◌, ◌++◌, ℕ, Bool, true, false, append_assoc, cond, filter, is_some, map, nat_eq, nat_lt, List, [], ◌∷◌, Option, Some, ap, arith, inl, inr, not, refl, subst, sym}
-use Rattle.std.proofs.lemmas.Bool.{cases_Bool, cases_eq, false≢true}
-use Rattle.std.proofs.lemmas.Bool.Decides.{nat_tests}
+use Rattle.std.proofs.Common.{◌≡◌, ◌≢◌, ◌==◌, ◌||◌, ◌∙◌, ◌⊎◌, ◌++◌, ℕ, Bool, true, false, append_assoc, cond, filter, is_some, map, nat_eq, List, [], ◌∷◌, Option, Some, ap, arith, inl, inr, not, refl, subst, sym}
+use Rattle.std.proofs.lemmas.Bool.{cases_Bool, cases_eq, false≢true, or_parts}
 use Rattle.std.proofs.lemmas.List.{length-set}
+use Rattle.std.proofs.Math.Bool.{or-false}
+use Rattle.ep_facts.proofs.NatFacts.{from_test, same_test}
+use Rattle.ep_facts.proofs.AmongFacts.{among_append, among_last}
+use Rattle.ep_facts.proofs.BoolFacts.{or_assoc, or_left, or_right, same_bools}
+use Rattle.ep_facts.proofs.OptionFacts.{some_same}
 use Rattle.ep_base.specs.declared.ids.DescId.{DescId}
 use Rattle.ep_base.specs.declared.ids.EntryId.{EntryId}
 use Rattle.ep_calls.proofs.EntryKeyLemmas.{id_is}
 use Rattle.ep_calls.proofs.EntryLemmas.{key_of, member_of, number_of, one_under, within as number_within}
-use Rattle.ep_calls.proofs.FindLemmas.{same_bools}
 use Rattle.ep_dates.proofs.KeptLemmas.{apart_one, ended_changes, event_else, event_here, kept_changed, same_one}
 use Rattle.ep_dates.proofs.OrderLemmas.{ended_rows, order_changed}
-use Rattle.ep_dates.proofs.RowLemmas.{end_here, or_assoc, or_false, row_else}
+use Rattle.ep_dates.proofs.RowLemmas.{row_else}
 use Rattle.ep_dates.specs.Dates.{Dates, ended, event_at, is_ready, noted}
 use Rattle.ep_dates.specs.Ask.{is_on, watches}
 use Rattle.ep_dates.specs.Drop.{Drops, is_in, is_in_found, touches, touches_any, touches_found}
@@ -18,25 +21,24 @@ use Rattle.ep_dates.specs.Kept.{AreKept}
 use Rattle.ep_interest.specs.Passes.{has_id}
 use Rattle.ep_interest.specs.Registrations.{IsSound, Registrations, entry_under, id_of, ids, with_ids}
 use Rattle.ep_interest.specs.declared.entry.Entry.{Entry}
-use Rattle.ep_law.proofs.ListLemmas.{among_split, filtered_member, filtered_passes, member_filter, member_map}
-use Rattle.ep_law.proofs.TestLemmas.{from_test, or_left, or_right, same_test}
+use Rattle.ep_law.proofs.ListLemmas.{filtered_member, filtered_passes, member_filter, member_map}
 use Rattle.ep_law.specs.Laws.{Member}
 use Rattle.ep_machine.specs.Lists.{is_among}
-use Rattle.ep_ready.specs.Walk.{Walk, with_reached}
+use Rattle.ep_walk.specs.Walk.{Walk, with_reached}
 use Rattle.ep_rings.specs.PlacedRows.{first_in, keys_at}
 
 -- what is reached stays, and one more is there
 reached_still : (w : Walk) (i j : ℕ) → is_among w.reached j ≡ true → is_among (with_reached w i).reached j ≡ true
 reached_still w i j h = elim (is_among w.reached i) as (λ b. is_among (cond b w (record w { reached = w.reached ++ i ∷ [] })).reached j ≡ true) [
   | true ↦ h
-  | false ↦ among_split w.reached (i ∷ []) j ∙ or_left (is_among w.reached j) (is_among (i ∷ []) j) h
+  | false ↦ among_append w.reached (i ∷ []) j ∙ or_left (is_among w.reached j) (is_among (i ∷ []) j) h
 ]
 
 reached_here : (w : Walk) (i : ℕ) → is_among (with_reached w i).reached i ≡ true
 reached_here w i = by (is_among w.reached i) refl where
   by : (b : Bool) → is_among w.reached i ≡ b → is_among (cond b w (record w { reached = w.reached ++ i ∷ [] })).reached i ≡ true
   by true h = h
-  by false h = end_here w.reached i
+  by false h = among_last w.reached i
 
 noted_still : (b c : Bool) (w : Walk) (i j : ℕ) → is_among w.reached j ≡ true → is_among (noted b c i w).reached j ≡ true
 noted_still true true w i j h = h
@@ -90,7 +92,7 @@ module _ (r : Registrations) where
     ids = t.ids ∙ s.ids;
     room = t.room ∙ s.room;
     later = λ k lt. t.later k lt ∙ s.later k lt;
-    stays = λ id x at h. let both = neither (f id.0) (g id.0) h in t.stays id x at both.1 ∙ s.stays id x at both.0;
+    stays = λ id x at h. let both = or_parts (f id.0) (g id.0) h in t.stays id x at both.1 ∙ s.stays id x at both.0;
     goes = λ id x at h. elim (cases_Bool (g id.0)) [
       | inl late ↦ t.goes id x at late
       | inr not_late ↦ t.stays id x at not_late ∙ s.goes id x at (first (f id.0) (g id.0) not_late h)
@@ -100,10 +102,6 @@ module _ (r : Registrations) where
     still = λ i h. t.still i (s.still i h);
     order = λ n o. t.order n (s.order n o);
   } where
-    neither : (x y : Bool) → (x || y) ≡ false → (x ≡ false) × (y ≡ false)
-    neither true y h = absurd (false≢true (sym h))
-    neither false y h = (refl, h)
-
     first : (x y : Bool) → y ≡ false → (x || y) ≡ true → x ≡ true
     first true y n h = refl
     first false y n h = absurd (false≢true (sym n ∙ h))
@@ -164,9 +162,6 @@ has_member [] e m = absurd m
 has_member (x ∷ xs) e (inl is) = or_left (e.0 == x.0) (has_id xs e.0) (same_test e.0 x.0 (ap (λ (k : EntryId). k.0) is))
 has_member (x ∷ xs) e (inr m) = or_right (e.0 == x.0) (has_id xs e.0) (has_member xs e m)
 
-one_entry : (a b : Entry) → Some a ≡ Some b → a ≡ b
-one_entry a b e = cc
-
 pub listed_where : (r : Registrations) → IsSound r → (p : Entry → Bool) (id : EntryId) (x : Entry) → entry_under r id ≡ Some x → has_id (ids r (filter p r.entries)) id.0 ≡ p x
 listed_where r sound p id x at = same_bools (has_id (ids r (filter p r.entries)) id.0) (p x) forth back where
   forth : has_id (ids r (filter p r.entries)) id.0 ≡ true → p x ≡ true
@@ -175,7 +170,7 @@ listed_where r sound p id x at = same_bools (has_id (ids r (filter p r.entries))
       let y = found.0 in
       let key = key_of r sound y (filtered_member p r.entries y found.1) in
       let same : key.0 ≡ id = let e : key.0.0 ≡ id.0 = ap (λ (j : EntryId). j.0) (sym (id_is r sound key.0 y.number (number_of r key.0 y key.1))) ∙ found.2 in λ q. record { 0 = e q } in
-      let one : y ≡ x = one_entry y x (sym key.1 ∙ (ap (entry_under r) same ∙ at)) in
+      let one : y ≡ x = some_same y x (sym key.1 ∙ (ap (entry_under r) same ∙ at)) in
       ap p (sym one) ∙ filtered_passes p r.entries y found.1
 
   back : p x ≡ true → has_id (ids r (filter p r.entries)) id.0 ≡ true
@@ -192,7 +187,7 @@ keys_in_pairs r [] = refl
 keys_in_pairs r (x ∷ xs) = ap (λ (l : List EntryId). id_of r x.number ∷ l) (keys_in_pairs r xs)
 
 has_more : (ids : List EntryId) (id : EntryId) (k : ℕ) → has_id (ids ++ id ∷ []) k ≡ (has_id ids k || k == id.0)
-has_more [] id k = or_false (k == id.0)
+has_more [] id k = or-false (k == id.0)
 has_more (x ∷ ids) id k = ap (λ (b : Bool). nat_eq k x.0 || b) (has_more ids id k) ∙ or_assoc (nat_eq k x.0) (has_id ids k) (k == id.0)
 
 firsts_more : {X : Type 0} → (qs : List (EntryId × X)) (q : EntryId × X) → firsts (qs ++ q ∷ []) ≡ firsts qs ++ q.0 ∷ []
@@ -218,7 +213,7 @@ module _ (r : Registrations) where
 
 -- Those that go with descriptions.
 any_more : (r : Registrations) (done : List DescId) (desc : DescId) (k : ℕ) → touches_any r (done ++ desc ∷ []) k ≡ (touches_any r done k || touches r desc.0 k)
-any_more r [] desc k = or_false (touches r desc.0 k)
+any_more r [] desc k = or-false (touches r desc.0 k)
 any_more r (d ∷ done) desc k = ap (λ (b : Bool). touches r d.0 k || b) (any_more r done desc k) ∙ or_assoc (touches r d.0 k) (touches_any r done k) (touches r desc.0 k)
 
 module _ (r : Registrations) where

@@ -1,14 +1,17 @@
 -- Some registrations are asked, one after another.
-use Rattle.std.proofs.Common.{◌≡◌, ◌<◌, ◌+◌, ◌==◌, ◌&&◌, ◌||◌, ◌∙◌, ◌⊎◌, ℕ, Bool, true, false, get_or, length, List, [], ◌∷◌, ◌++◌, None, Option, Some, ap, filter, inl, inr, nat_eq, not, refl, subst, sym, take}
+use Rattle.std.proofs.Common.{◌≡◌, ◌<◌, ◌+◌, ◌==◌, ◌&&◌, ◌||◌, ◌∙◌, ℕ, Bool, true, false, get_or, length, List, [], ◌∷◌, ◌++◌, None, Option, Some, ap, filter, inl, inr, nat_eq, not, refl, subst, sym, take}
 use Rattle.std.proofs.lemmas.Bool.{cases_Bool, false≢true}
 use Rattle.std.proofs.lemmas.List.{take_more}
+use Rattle.std.proofs.Math.Bool.{or-false}
+use Rattle.ep_facts.proofs.NatFacts.{from_test, same_test}
+use Rattle.ep_facts.proofs.AmongFacts.{among_append, among_end}
+use Rattle.ep_facts.proofs.BoolFacts.{from_and_not as parts, or_assoc, or_cases, or_left, or_nothing, or_right}
 use Rattle.ep_base.specs.declared.ids.DescId.{DescId}
 use Rattle.ep_base.specs.declared.ids.EntryId.{EntryId}
 use Rattle.ep_calls.proofs.EntryKeyLemmas.{id_is}
 use Rattle.ep_calls.proofs.EntryLemmas.{member_of, number_of}
 use Rattle.ep_calls.specs.Parts.{Parts}
 use Rattle.ep_dates.proofs.AskLemmas.{shows_rises}
-use Rattle.ep_dates.proofs.RowLemmas.{among_end, or_assoc, or_false}
 use Rattle.ep_dates.proofs.TurnLemmas.{more_of_both, turns_asking, turns_both, turns_less, turns_none}
 use Rattle.ep_dates.specs.Ask.{Asks, is_on, shows_over, watches}
 use Rattle.ep_dates.specs.Dates.{Dates}
@@ -17,15 +20,14 @@ use Rattle.ep_dates.specs.Touched.{is_fresh_on, watches_fresh}
 use Rattle.ep_interest.specs.Passes.{has_id}
 use Rattle.ep_interest.specs.Registrations.{IsSound, Registrations, entry_under, id_of, ids, is_on as watches_at}
 use Rattle.ep_interest.specs.declared.entry.Entry.{Entry}
-use Rattle.ep_law.proofs.ListLemmas.{among_split, member_filter, member_map}
+use Rattle.ep_law.proofs.ListLemmas.{member_filter, member_map}
 use Rattle.ep_machine.specs.Lists.{is_among}
-use Rattle.ep_ready.specs.Walk.{Walk}
-use Rattle.ep_law.proofs.TestLemmas.{from_test, or_left, or_right, same_test}
+use Rattle.ep_walk.specs.Walk.{Walk}
 use Rattle.ep_law.specs.Laws.{Member}
-use Rattle.ep_rings.specs.KeyWalk.{id_at as key_of}
+use Rattle.ep_rings.specs.KeyWalk.{entry_id as key_of}
 
 has_more : (ids : List EntryId) (id : EntryId) (k : ℕ) → has_id (ids ++ id ∷ []) k ≡ (has_id ids k || k == id.0)
-has_more [] id k = or_false (k == id.0)
+has_more [] id k = or-false (k == id.0)
 has_more (x ∷ ids) id k = ap (λ (b : Bool). nat_eq k x.0 || b) (has_more ids id k) ∙ or_assoc (nat_eq k x.0) (has_id ids k) (k == id.0)
 
 module _ (way : Bool) (n : ℕ) (p : Parts) where
@@ -66,18 +68,10 @@ fresh_none w None h = false≢true h
 fresh_none w (Some x) h = false≢true h
 
 pub fresh_parts : (w ks : List ℕ) (x : Entry) (o : Option Entry) → o ≡ Some x → is_fresh_on w ks o ≡ true → (is_among ks x.desc.0 ≡ true) × (is_among w x.desc.0 ≡ false)
-fresh_parts w ks x o is h = parts (is_among ks x.desc.0) (is_among w x.desc.0) (sym (ap (is_fresh_on w ks) is) ∙ h) where
-  parts : (a b : Bool) → (a && not b) ≡ true → (a ≡ true) × (b ≡ false)
-  parts true true h = absurd (false≢true h)
-  parts true false h = (refl, refl)
-  parts false b h = absurd (false≢true h)
+fresh_parts w ks x o is h = parts (is_among ks x.desc.0) (is_among w x.desc.0) (sym (ap (is_fresh_on w ks) is) ∙ h)
 
 pub fresh_is : (w ks : List ℕ) (x : Entry) (o : Option Entry) → o ≡ Some x → is_among ks x.desc.0 ≡ true → is_among w x.desc.0 ≡ false → is_fresh_on w ks o ≡ true
 fresh_is w ks x o is there absent = ap (is_fresh_on w ks) is ∙ (λ i. there i && not (absent i))
-
-or_either : (a b : Bool) → (a || b) ≡ true → (a ≡ true) ⊎ (b ≡ true)
-or_either true b h = inl refl
-or_either false b h = inr h
 
 module _ (way : Bool) (n : ℕ) (p : Parts) where
   pub above_none : (d : Dates) (w : List ℕ) → AreKept p.interest d → Asks way n p (watches_fresh p.interest w []) d d
@@ -89,11 +83,8 @@ module _ (way : Bool) (n : ℕ) (p : Parts) where
   above_noted d i kept there =
       turns_none way n p.interest (shows_over p) (shows_rises p) (watches_fresh p.interest d.turned.reached (i ∷ [])) d kept (λ id x at h.
       let both = fresh_parts d.turned.reached (i ∷ []) x (entry_under p.interest id) at h in
-      let one : x.desc.0 ≡ i = from_test x.desc.0 i (strip (x.desc.0 == i) both.0) in
-      absurd (false≢true (sym both.1 ∙ (ap (is_among d.turned.reached) one ∙ there)))) where
-        strip : (b : Bool) → (b || false) ≡ true → b ≡ true
-        strip true h = refl
-        strip false h = h
+      let one : x.desc.0 ≡ i = from_test x.desc.0 i (or_nothing (x.desc.0 == i) both.0) in
+      absurd (false≢true (sym both.1 ∙ (ap (is_among d.turned.reached) one ∙ there))))
 
   pub above_more : (ks : List ℕ) (i desc : ℕ) (a b c : Dates) → i < length ks → get_or ks i 0 ≡ desc → Asks way n p (watches_fresh p.interest a.turned.reached (take i ks)) a b
       → Asks way n p (watches_fresh p.interest b.turned.reached (desc ∷ [])) b c → Asks way n p (watches_fresh p.interest a.turned.reached (take (i + 1) ks)) a c
@@ -104,13 +95,13 @@ module _ (way : Bool) (n : ℕ) (p : Parts) where
       let both = turns_both way n p.interest (shows_over p) (shows_rises p) f g a b c s t in
       turns_asking way n p.interest (shows_over p) (λ k. f k || g k) (watches_fresh p.interest a.turned.reached (take (i + 1) ks)) a c both (λ id x at h.
       let parts = fresh_parts a.turned.reached (take (i + 1) ks) x (entry_under p.interest id) at h in
-      elim (or_either (is_among (take i ks) x.desc.0) (x.desc.0 == desc) (sym (ap (λ (l : List ℕ). is_among l x.desc.0) more ∙ among_end (take i ks) desc x.desc.0) ∙ parts.0)) [
+      elim (or_cases (is_among (take i ks) x.desc.0) (x.desc.0 == desc) (sym (ap (λ (l : List ℕ). is_among l x.desc.0) more ∙ among_end (take i ks) desc x.desc.0) ∙ parts.0)) [
         | inl early ↦ both.settled id x at (or_left (f id.0) (g id.0) (fresh_is a.turned.reached (take i ks) x (entry_under p.interest id) at early parts.1))
         | inr last ↦ elim (cases_Bool (is_among b.turned.reached x.desc.0)) [
           | inl noted ↦
-              let split : (is_among a.turned.reached x.desc.0 || is_among s.more x.desc.0) ≡ true = sym (among_split a.turned.reached s.more x.desc.0) ∙ (ap (λ (w : Walk). is_among w.reached x.desc.0) (sym s.turned) ∙ noted) in
+              let split : (is_among a.turned.reached x.desc.0 || is_among s.more x.desc.0) ≡ true = sym (among_append a.turned.reached s.more x.desc.0) ∙ (ap (λ (w : Walk). is_among w.reached x.desc.0) (sym s.turned) ∙ noted) in
               let new : is_among s.more x.desc.0 ≡ true = sym (ap (λ (e : Bool). e || is_among s.more x.desc.0) parts.1) ∙ split in
-              inr (inr (ap (λ (l : List ℕ). is_among l x.desc.0) (more_of_both way n p.interest (shows_over p) (shows_rises p) f g a b c s t) ∙ (among_split s.more t.more x.desc.0 ∙ or_left (is_among s.more x.desc.0) (is_among t.more x.desc.0) new)))
+              inr (inr (ap (λ (l : List ℕ). is_among l x.desc.0) (more_of_both way n p.interest (shows_over p) (shows_rises p) f g a b c s t) ∙ (among_append s.more t.more x.desc.0 ∙ or_left (is_among s.more x.desc.0) (is_among t.more x.desc.0) new)))
           | inr absent ↦ both.settled id x at (or_right (f id.0) (g id.0) (fresh_is b.turned.reached (desc ∷ []) x (entry_under p.interest id) at (or_left (x.desc.0 == desc) false last) absent))
         ]
       ])

@@ -1,13 +1,16 @@
 -- Registrations that were reported are asked, and then all are settled.
-use Rattle.std.proofs.Common.{◌≡◌, ◌<◌, ◌+◌, ◌++◌, ◌==◌, ◌||◌, ◌∙◌, ℕ, Bool, List, [], ◌∷◌, None, Option, Some, ap, false, get_or, inl, inr, length, refl, subst, sym, take, true}
+use Rattle.std.proofs.Common.{◌≡◌, ◌<◌, ◌+◌, ◌++◌, ◌==◌, ◌||◌, ◌∙◌, ℕ, Bool, List, [], ◌∷◌, None, Option, Some, ap, false, get_or, inl, inr, length, subst, sym, take, true}
 use Rattle.std.proofs.lemmas.Bool.{cases_Bool, false≢true}
 use Rattle.std.proofs.lemmas.List.{take_more}
+use Rattle.std.proofs.Math.Bool.{or-false}
+use Rattle.ep_facts.proofs.NatFacts.{from_test, same_test}
+use Rattle.ep_facts.proofs.AmongFacts.{among_append, among_end}
+use Rattle.ep_facts.proofs.BoolFacts.{or_left, or_nothing}
 use Rattle.ep_base.specs.declared.ids.EntryId.{EntryId}
 use Rattle.ep_calls.specs.Parts.{Parts}
 use Rattle.ep_dates.proofs.AskLemmas.{shows_rises}
 use Rattle.ep_dates.proofs.ComeLemmas.{both_stages}
 use Rattle.ep_dates.proofs.EachLemmas.{fresh_is}
-use Rattle.ep_dates.proofs.RowLemmas.{among_end}
 use Rattle.ep_dates.proofs.TurnLemmas.{settled_on, turns_asking, turns_less, turns_none}
 use Rattle.ep_dates.specs.Ask.{AreSettled, Asks, IsSettled, shows_by, shows_over}
 use Rattle.ep_dates.specs.Dates.{Dates, id_at, is_dated}
@@ -15,11 +18,9 @@ use Rattle.ep_dates.specs.Kept.{AreKept}
 use Rattle.ep_dates.specs.Touched.{has_number, is_numbered, is_on_any, watches_any, watches_fresh}
 use Rattle.ep_interest.specs.Registrations.{entry_under}
 use Rattle.ep_interest.specs.declared.entry.Entry.{Entry}
-use Rattle.ep_law.proofs.ListLemmas.{among_split}
-use Rattle.ep_law.proofs.TestLemmas.{from_test, or_left, same_test}
 use Rattle.ep_machine.specs.Lists.{is_among}
-use Rattle.ep_ready.specs.Walk.{Walk}
-use Rattle.ep_rings.specs.KeyWalk.{id_at as key_of}
+use Rattle.ep_walk.specs.Walk.{Walk}
+use Rattle.ep_rings.specs.KeyWalk.{entry_id as key_of}
 
 numbered_none : (o : Option Entry) → is_numbered [] o ≡ true → ⊥
 numbered_none None h = false≢true h
@@ -27,16 +28,10 @@ numbered_none (Some x) h = false≢true h
 
 numbered_more : (ks : List ℕ) (k : ℕ) (o : Option Entry) → is_numbered (ks ++ k ∷ []) o ≡ true → (is_numbered ks o || is_numbered (k ∷ []) o) ≡ true
 numbered_more ks k None h = h
-numbered_more ks k (Some x) h = ap (λ (b : Bool). is_among ks x.number || b) (or_false (x.number == k)) ∙ (sym (among_end ks k x.number) ∙ h) where
-  or_false : (b : Bool) → (b || false) ≡ b
-  or_false true = refl
-  or_false false = refl
+numbered_more ks k (Some x) h = ap (λ (b : Bool). is_among ks x.number || b) (or-false (x.number == k)) ∙ (sym (among_end ks k x.number) ∙ h)
 
 numbered_one : (k : ℕ) (x : Entry) (o : Option Entry) → o ≡ Some x → is_numbered (k ∷ []) o ≡ true → x.number ≡ k
-numbered_one k x o is h = from_test x.number k (strip (x.number == k) (sym (ap (is_numbered (k ∷ [])) is) ∙ h)) where
-  strip : (b : Bool) → (b || false) ≡ true → b ≡ true
-  strip true t = refl
-  strip false t = t
+numbered_one k x o is h = from_test x.number k (or_nothing (x.number == k) (sym (ap (is_numbered (k ∷ [])) is) ∙ h))
 
 module _ (n : ℕ) (p : Parts) where
   pub reported_none : (d : Dates) → AreKept p.interest d → Asks false n p (has_number p.interest []) d d
@@ -89,7 +84,7 @@ module _ (n : ℕ) (p : Parts) where
     | inl any ↦
         let there : is_among ks x.desc.0 ≡ true = sym (ap (is_on_any ks) at) ∙ any in
         let early : is_among w x.desc.0 ≡ false = elim (cases_Bool (is_among w x.desc.0)) [
-          | inl known ↦ absurd (false≢true (sym absent ∙ (ap (λ (q : Walk). is_among q.reached x.desc.0) t.turned ∙ (among_split c.turned.reached t.more x.desc.0 ∙ or_left (is_among c.turned.reached x.desc.0) (is_among t.more x.desc.0) (ap (λ (l : List ℕ). is_among l x.desc.0) same ∙ known)))))
+          | inl known ↦ absurd (false≢true (sym absent ∙ (ap (λ (q : Walk). is_among q.reached x.desc.0) t.turned ∙ (among_append c.turned.reached t.more x.desc.0 ∙ or_left (is_among c.turned.reached x.desc.0) (is_among t.more x.desc.0) (ap (λ (l : List ℕ). is_among l x.desc.0) same ∙ known)))))
           | inr f ↦ f
         ] in
         absurd (false≢true (sym unasked ∙ fresh_is w ks x (entry_under p.interest id) at there early))

@@ -2,15 +2,18 @@
 use Rattle.std.proofs.Common.{◌≡◌, ◌≢◌, ◌<◌, ◌==◌, ◌∙◌, ℕ, Bool, true, false, cond, length, List, [], ◌∷◌, ◌++◌, Some, ap, filter, inl, inr, nat_lt, not, refl, set, subst, sym}
 use Rattle.std.proofs.lemmas.Bool.{cases_eq, false≢true}
 use Rattle.std.proofs.lemmas.List.{get_or-set_other, get_or-set_same, length-set}
+use Rattle.ep_facts.proofs.AmongFacts.{among_last, among_push_other}
+use Rattle.ep_facts.proofs.OptionFacts.{some_same}
 use Rattle.ep_base.specs.declared.ids.EntryId.{EntryId}
-use Rattle.ep_dates.proofs.RowLemmas.{among_gone, among_left, end_here, end_other, row_here, row_home, row_other}
+use Rattle.ep_dates.proofs.RowLemmas.{row_here, row_home, row_other}
 use Rattle.ep_dates.specs.Dates.{Dates, HasPlace, begun, ended, event_at, id_at, is_ready, noted, renewed}
 use Rattle.ep_dates.specs.Kept.{AreKept}
 use Rattle.ep_interest.specs.Registrations.{Registrations, entry_under}
 use Rattle.ep_interest.specs.declared.entry.Entry.{Entry}
 use Rattle.ep_machine.specs.Lists.{is_among}
-use Rattle.ep_ready.specs.Walk.{Walk, with_reached}
-use Rattle.ep_rings.specs.KeyWalk.{id_at as key_of}
+use Rattle.ep_walk.specs.Walk.{Walk, with_reached}
+use Rattle.ep_rings.proofs.AmongLemmas.{among_gone, among_left}
+use Rattle.ep_rings.specs.KeyWalk.{entry_id as key_of}
 use Rattle.ep_rings.specs.PlacedRows.{PlacedRows, keys_at, without_key}
 
 -- two registrations with one number are one
@@ -33,9 +36,6 @@ pub record Changes (d : Dates) (id : EntryId) (x : Entry) (event : ℕ) (new : D
 id_is : (a b : EntryId) → a.0 ≡ b.0 → a ≡ b
 id_is a b e = λ i. record { 0 = e i }
 
-some_entry : (x y : Entry) → Some x ≡ Some y → x ≡ y
-some_entry x y e = cc
-
 module _ (r : Registrations) (one : AreOne r) (d : Dates) (kept : AreKept r d) (id : EntryId) (x : Entry) (is : entry_under r id ≡ Some x) (event : ℕ) (new : Dates) (c : Changes d id x event new) where
   place : HasPlace d id x
   place = kept.places id x is
@@ -47,7 +47,7 @@ module _ (r : Registrations) (one : AreOne r) (d : Dates) (kept : AreKept r d) (
   event_else k apart = ap (λ (s : List ℕ). event_at s k) c.since ∙ get_or-set_other d.since x.number k event 0 apart
 
   pub same_one : (j : EntryId) (y : Entry) → entry_under r j ≡ Some y → j.0 ≡ id.0 → y ≡ x
-  same_one j y at e = some_entry y x (sym at ∙ (ap (entry_under r) (id_is j id e) ∙ is))
+  same_one j y at e = some_same y x (sym at ∙ (ap (entry_under r) (id_is j id e) ∙ is))
 
   pub apart_one : (j : EntryId) (y : Entry) → entry_under r j ≡ Some y → j.0 ≢ id.0 → y.number ≢ x.number
   apart_one j y at ne e = ne (ap (λ (i : EntryId). i.0) (one j id y x at is e).0)
@@ -99,7 +99,7 @@ module _ (r : Registrations) (d : Dates) (kept : AreKept r d) (id : EntryId) (x 
   pub only_home : (j : ℕ) → is_among (keys_at d.rows j) id.0 ≡ true → j ≡ i
   only_home j t =
       let found = kept.only j id.0 t in
-      sym found.2 ∙ ap (λ (y : Entry). y.instance.0) (some_entry found.0 x (sym found.1 ∙ (ap (entry_under r) (id_is (key_of id.0) id refl) ∙ is)))
+      sym found.2 ∙ ap (λ (y : Entry). y.instance.0) (some_same found.0 x (sym found.1 ∙ (ap (entry_under r) (id_is (key_of id.0) id refl) ∙ is)))
 
   pub begun_changes : (n : ℕ) → nat_lt 0 n ≡ true → Changes d id x n (begun n id x d)
   begun_changes n up = record {
@@ -110,8 +110,8 @@ module _ (r : Registrations) (d : Dates) (kept : AreKept r d) (id : EntryId) (x 
     rows = length-set d.rows.rows i (keys_at d.rows i ++ id.0 ∷ []);
     keys = refl;
     room = noted_room (is_ready d i) _ i d.turned;
-    here = ap (λ (l : List ℕ). is_among l id.0) (row_here d.rows i (keys_at d.rows i ++ id.0 ∷ []) spot.row) ∙ (end_here (keys_at d.rows i) id.0 ∙ sym up);
-    other = row_other d.rows i id.0 (keys_at d.rows i ++ id.0 ∷ []) spot.row (λ m apart. end_other (keys_at d.rows i) id.0 m apart);
+    here = ap (λ (l : List ℕ). is_among l id.0) (row_here d.rows i (keys_at d.rows i ++ id.0 ∷ []) spot.row) ∙ (among_last (keys_at d.rows i) id.0 ∙ sym up);
+    other = row_other d.rows i id.0 (keys_at d.rows i ++ id.0 ∷ []) spot.row (λ m apart. among_push_other (keys_at d.rows i) id.0 m apart);
     home = row_home d.rows i id.0 (keys_at d.rows i ++ id.0 ∷ []) only_home;
   }
 
@@ -164,9 +164,9 @@ module _ (r : Registrations) (d : Dates) (kept : AreKept r d) (id : EntryId) (x 
     rows = length-set middle.rows at (keys_at middle at ++ id.0 ∷ []) ∙ length-set d.rows.rows at others;
     keys = refl;
     room = refl;
-    here = ap (λ (l : List ℕ). is_among l id.0) last_row ∙ (end_here (keys_at middle at) id.0 ∙ sym up);
+    here = ap (λ (l : List ℕ). is_among l id.0) last_row ∙ (among_last (keys_at middle at) id.0 ∙ sym up);
     other = λ j m apart.
-        row_other middle at id.0 (keys_at middle at ++ id.0 ∷ []) there (λ k ne. end_other (keys_at middle at) id.0 k ne) j m apart
+        row_other middle at id.0 (keys_at middle at ++ id.0 ∷ []) there (λ k ne. among_push_other (keys_at middle at) id.0 k ne) j m apart
         ∙ row_other d.rows at id.0 others (kept.places id x is).row (λ k ne. among_left (keys_at d.rows at) id.0 k ne) j m apart;
     home = row_home middle at id.0 (keys_at middle at ++ id.0 ∷ []) only_there;
   }

@@ -7,8 +7,8 @@ use Rattle.ep_dates.specs.Kept.{AreKept}
 use Rattle.ep_dates.specs.Moves.{Moves}
 use Rattle.ep_interest.specs.Registrations.{Registrations}
 use Rattle.ep_machine.specs.Lists.{is_among}
-use Rattle.ep_ready.specs.Walk.{Walk}
-use Rattle.ep_rings.specs.KeyWalk.{id_at as key_of}
+use Rattle.ep_walk.specs.Walk.{Walk}
+use Rattle.ep_rings.specs.KeyWalk.{entry_id as key_of}
 use Rattle.ep_rings.specs.PlacedRows.{keys_at}
 
 pub kept_moves : (d : Dates) (old new : Registrations) → AreKept old d → Moves d old new → AreKept new d

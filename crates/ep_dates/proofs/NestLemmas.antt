@@ -1,7 +1,9 @@
 -- Down through nested instances: what holds of the registrations of each if it holds of those below.
-use Rattle.std.proofs.Common.{◌≡◌, ◌==◌, ◌&&◌, ◌∙◌, ℕ, zero, suc, Bool, true, false, Contains, IsSome, List, [], ◌∷◌, Some, ap, inl, inr, refl, rules, subst, sym}
+use Rattle.std.proofs.Common.{◌≡◌, ◌==◌, ◌&&◌, ◌∙◌, ℕ, zero, suc, Bool, true, false, Contains, IsSome, List, Some, ap, inl, inr, refl, rules, subst, sym}
 use Rattle.std.specs.List.{list_any}
 use Rattle.std.proofs.lemmas.Bool.{cases_Bool, false≢true}
+use Rattle.ep_facts.proofs.NatFacts.{from_test, same_test}
+use Rattle.ep_facts.proofs.BoolFacts.{both_true}
 use Rattle.ep_base.specs.declared.ids.DescId.{DescId}
 use Rattle.ep_base.specs.declared.ids.EntryId.{EntryId}
 use Rattle.ep_calls.proofs.EntryLemmas.{holds_under, key_of, member_of}
@@ -17,21 +19,14 @@ use Rattle.ep_dates.specs.Ask.{shows_over}
 use Rattle.ep_interest.specs.Registrations.{IsSound, entry_under}
 use Rattle.ep_interest.specs.declared.entry.Entry.{Entry}
 use Rattle.ep_law.proofs.GraphLemmas.{member_of_map}
-use Rattle.ep_law.proofs.ListLemmas.{all_member, any_member, member_map}
+use Rattle.ep_law.proofs.ListLemmas.{all_member, any_has, any_member, member_map}
 use Rattle.ep_law.proofs.ReadinessLemmas.{and_same}
-use Rattle.ep_law.proofs.TestLemmas.{both_true, from_test, or_left, or_right, same_test}
-use Rattle.ep_law.specs.Laws.{Member}
 use Rattle.ep_machine.specs.Watches.{is_legal}
 use Rattle.ep_nest.proofs.LegalityLemmas.{short_from_is_legal}
 use Rattle.ep_nest.specs.Chains.{LeadsBy}
 use Rattle.ep_nest.specs.Links.{edges}
 use Rattle.ep_table.specs.Value.{Sound as SoundTables, number_under}
 use Rattle.ep_view.specs.KernelView.{KernelWatch, ready_now, ready_within, shows}
-
-any_of : (f : KernelWatch → Bool) (xs : List KernelWatch) (x : KernelWatch) → Member x xs → f x ≡ true → list_any f xs ≡ true
-any_of f [] x m t = absurd m
-any_of f (y ∷ ys) x (inl e) t = or_left _ _ (ap f (sym e) ∙ t)
-any_of f (y ∷ ys) x (inr m) t = or_right _ _ (any_of f ys x m t)
 
 module _ (p : Parts) (coherent : AreCoherent p) (tables : SoundTables p.tables) (sound : IsSound p.interest) (legal : is_legal (edges p.graph) ≡ true) where
   abbrev ready : ℕ → Bool
@@ -97,7 +92,7 @@ module _ (p : Parts) (coherent : AreCoherent p) (tables : SoundTables p.tables) 
   has_ready id x at shown =
       let same : (number_at p.tables.keys x.instance == e x.instance (linked id x at).instance) ≡ true = search rules in
       one_level x.instance (linked id x at).instance
-      ∙ any_of (test x.instance (linked id x at).instance) watches (watch_at p.tables.keys x) (member_map (watch_at p.tables.keys) x p.interest.entries (member_of p.interest id x at)) (λ j. same j && shown j)
+      ∙ any_has (test x.instance (linked id x at).instance) watches (watch_at p.tables.keys x) (member_map (watch_at p.tables.keys) x p.interest.entries (member_of p.interest id x at)) (λ j. same j && shown j)
 
   -- what a registration shows, as what it watches says
   pub shows_at_target : (x : Entry) → entry_shows ready p.tables p.clock x ≡ shows_over p (ready_key p.tables p.clock p.interest x.desc.0) x

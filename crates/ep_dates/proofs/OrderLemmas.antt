@@ -2,18 +2,20 @@
 use Rattle.std.proofs.Common.{◌≡◌, ◌≢◌, ◌≤◌, ◌==◌, ◌∙◌, ◌++◌, ◌⊎◌, ℕ, Bool, true, false, cond, filter, map, not, List, [], ◌∷◌, None, Option, Some, ap, arith, inl, inr, refl, subst, sym}
 use Rattle.std.proofs.lemmas.Bool.{cases_Bool, cases_eq, false≢true}
 use Rattle.std.specs.List.{AllByRecursion}
+use Rattle.ep_facts.proofs.NatFacts.{same_test}
+use Rattle.ep_facts.proofs.BoolFacts.{or_left, or_right}
+use Rattle.ep_facts.proofs.AmongFacts.{among_push_other, map_same}
 use Rattle.ep_base.specs.declared.ids.EntryId.{EntryId}
 use Rattle.ep_dates.proofs.KeptLemmas.{AreOne, Changes, apart_one, event_else, event_here, only_home}
-use Rattle.ep_dates.proofs.RowLemmas.{among_gone, among_left, end_other, row_else, row_here}
+use Rattle.ep_dates.proofs.RowLemmas.{row_else, row_here}
 use Rattle.ep_dates.specs.Dates.{Dates, ended}
 use Rattle.ep_dates.specs.Kept.{AreKept}
 use Rattle.ep_dates.specs.Order.{AreInTurn, Rise, date_found, date_under}
 use Rattle.ep_interest.specs.Registrations.{Registrations, entry_under}
 use Rattle.ep_interest.specs.declared.entry.Entry.{Entry}
-use Rattle.ep_law.proofs.TestLemmas.{or_left, or_right, same_test}
 use Rattle.ep_machine.specs.Lists.{is_among}
-use Rattle.ep_rings.proofs.FrontLemmas.{filter_gone}
-use Rattle.ep_rings.specs.KeyWalk.{id_at as key_of}
+use Rattle.ep_rings.proofs.AmongLemmas.{among_gone, among_left, filter_gone}
+use Rattle.ep_rings.specs.KeyWalk.{entry_id as key_of}
 use Rattle.ep_rings.specs.PlacedRows.{keys_at}
 
 -- What is left of a list that rises.
@@ -37,11 +39,6 @@ rise_end n (e ∷ es) below h = (all_end e n es below.0 h.0, rise_end n es below
 map_end : (f : ℕ → ℕ) (xs : List ℕ) (k : ℕ) → map f (xs ++ k ∷ []) ≡ map f xs ++ f k ∷ []
 map_end f [] k = refl
 map_end f (x ∷ xs) k = ap (λ (l : List ℕ). f x ∷ l) (map_end f xs k)
-
--- the same of each that is there
-map_same : (f g : ℕ → ℕ) (xs : List ℕ) → ((k : ℕ) → is_among xs k ≡ true → f k ≡ g k) → map f xs ≡ map g xs
-map_same f g [] h = refl
-map_same f g (x ∷ xs) h = (λ i. h x (or_left (x == x) (is_among xs x) (same_test x x refl)) i ∷ map_same f g xs (λ k t. h k (or_right (k == x) (is_among xs k) t)) i)
 
 all_below : (n : ℕ) (f : ℕ → ℕ) (xs : List ℕ) → ((k : ℕ) → is_among xs k ≡ true → f k ≤ n) → AllByRecursion (λ e. e ≤ n) (map f xs)
 all_below n f [] h = tt
@@ -93,7 +90,7 @@ module _ (n : ℕ) (r : Registrations) (one : AreOne r) (d : Dates) (kept : AreK
       | inl e ↦ others_past i k (ap (λ (l : List ℕ). is_among l k) (sym e) ∙ t)
       | inr more ↦ elim (cases_eq k id.0) [
         | inl e ↦ let at : date_under r new k ≡ n = ap (date_under r new) e ∙ (date_here ∙ more.1) in omega (arith, at)
-        | inr ne ↦ others_past i k (sym (end_other (others i) id.0 k ne) ∙ (ap (λ (l : List ℕ). is_among l k) (sym more.0) ∙ t))
+        | inr ne ↦ others_past i k (sym (among_push_other (others i) id.0 k ne) ∙ (ap (λ (l : List ℕ). is_among l k) (sym more.0) ∙ t))
       ]
     ]
 

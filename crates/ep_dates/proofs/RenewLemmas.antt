@@ -2,17 +2,20 @@
 use Rattle.std.proofs.Common.{◌≡◌, ◌≢◌, ◌<◌, ◌+◌, ◌++◌, ◌==◌, ◌&&◌, ◌||◌, ◌∙◌, ◌⊎◌, ℕ, Bool, List, [], ◌∷◌, Some, ap, arith, cond, false, filter, get_or, inl, inr, is_some, length, nat_lt, not, refl, rules, subst, sym, take, true}
 use Rattle.std.proofs.lemmas.Bool.{cases_eq, false≢true}
 use Rattle.std.proofs.lemmas.List.{length-set, take_more}
+use Rattle.std.proofs.Math.Bool.{and-false}
+use Rattle.ep_facts.proofs.NatFacts.{same_test}
+use Rattle.ep_facts.proofs.AmongFacts.{among_append, among_last}
+use Rattle.ep_facts.proofs.BoolFacts.{and_none}
 use Rattle.ep_base.specs.declared.ids.EntryId.{EntryId}
 use Rattle.ep_calls.proofs.EntryLemmas.{one_under, within as number_within}
 use Rattle.ep_dates.proofs.KeptLemmas.{apart_one, event_else, event_here, kept_changed, last_row, only_home, renewed_changes, same_one, turned_row}
 use Rattle.ep_dates.proofs.OrderLemmas.{elsewhere, left, order_changed}
-use Rattle.ep_dates.proofs.RowLemmas.{end_here, row_else, some_first}
+use Rattle.ep_dates.proofs.RowLemmas.{row_else, some_first}
 use Rattle.ep_dates.specs.Dates.{Dates, event_at, id_at, is_dated, is_ready, renewed}
 use Rattle.ep_dates.specs.Kept.{AreKept}
 use Rattle.ep_dates.specs.Renew.{Renews}
 use Rattle.ep_interest.specs.Registrations.{IsSound, Registrations, entry_under}
 use Rattle.ep_interest.specs.declared.entry.Entry.{Entry}
-use Rattle.ep_law.proofs.TestLemmas.{same_test}
 use Rattle.ep_machine.specs.Lists.{is_among}
 use Rattle.ep_rings.specs.PlacedRows.{first_in, keys_at, without_key}
 
@@ -29,11 +32,8 @@ module _ (n : ℕ) (r : Registrations) where
     later = λ k lt. refl;
     order = λ o. o;
     ready = λ i. refl;
-    each = λ id x at. if_not (is_dated d x && false) n (event_at d.since x.number) (and_false (is_dated d x));
-  } where
-    and_false : (b : Bool) → (b && false) ≡ false
-    and_false true = refl
-    and_false false = refl
+    each = λ id x at. if_not (is_dated d x && false) n (event_at d.since x.number) (and-false (is_dated d x));
+  }
 
   module _ (sound : IsSound r) (up : nat_lt 0 n ≡ true) (d : Dates) (kept : AreKept r d) (id : EntryId) (x : Entry) (at : entry_under r id ≡ Some x) (dated : is_dated d x ≡ true) (key : id_at d.ids x.number ≡ id) where
     abbrev new : Dates
@@ -50,7 +50,7 @@ module _ (n : ℕ) (r : Registrations) where
 
     still_ready : is_ready new i ≡ true
     still_ready =
-        some_first (keys_at new.rows i) id.0 (ap (λ (l : List ℕ). is_among l id.0) (last_row r d kept id x at) ∙ end_here (keys_at (without_key d.rows i id.0) i) id.0)
+        some_first (keys_at new.rows i) id.0 (ap (λ (l : List ℕ). is_among l id.0) (last_row r d kept id x at) ∙ among_last (keys_at (without_key d.rows i id.0) i) id.0)
 
     new_rows : (j : ℕ) → (keys_at new.rows j ≡ left r d kept id x at j) ⊎ ((keys_at new.rows j ≡ left r d kept id x at j ++ id.0 ∷ []) × (n ≡ n))
     new_rows j = elim (cases_eq j i) [
@@ -90,10 +90,6 @@ module _ (n : ℕ) (r : Registrations) where
       not_same : {a b : ℕ} → a ≢ b → (a == b) ≡ false
       not_same ne = search rules
 
-      and_none : (a b : Bool) → b ≡ false → (a && b) ≡ false
-      and_none true b h = h
-      and_none false b h = refl
-
   -- one after another
   pub renews_both : (ks ls : List ℕ) (a b c : Dates) → nat_lt 0 n ≡ true → Renews n r ks a b → Renews n r ls b c → Renews n r (ks ++ ls) a c
   renews_both ks ls a b c up s t = record {
@@ -107,7 +103,7 @@ module _ (n : ℕ) (r : Registrations) where
     each = λ id x at.
         t.each id x at
         ∙ (two (is_dated a x) (is_dated b x) (is_among ks x.number) (is_among ls x.number) (event_at b.since x.number) (event_at a.since x.number) (s.each id x at) refl refl
-        ∙ ap (λ (f : Bool). cond (is_dated a x && f) n (event_at a.since x.number)) (sym (Rattle.ep_law.proofs.ListLemmas.among_split ks ls x.number)));
+        ∙ ap (λ (f : Bool). cond (is_dated a x && f) n (event_at a.since x.number)) (sym (among_append ks ls x.number)));
   } where
     two : (da db f g : Bool) (m e : ℕ) → m ≡ cond (da && f) n e → nat_lt 0 m ≡ db → nat_lt 0 e ≡ da → cond (db && g) n m ≡ cond (da && (f || g)) n e
     two true true true true m e is h k = refl

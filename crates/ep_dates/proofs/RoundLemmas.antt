@@ -1,30 +1,24 @@
 -- All instances are gone through whose readiness turned, and those that turn by that.
-use Rattle.std.proofs.Common.{◌≡◌, ◌≢◌, ◌<◌, ◌≤◌, ◌+◌, ◌==◌, ◌||◌, ◌∙◌, ◌⊎◌, ℕ, zero, suc, Bool, true, false, drop, get_or, length, List, [], ◌∷◌, ◌++◌, ap, arith, eqb, inl, inr, not, refl, rules, subst, sym, take, take_all}
-use Rattle.std.proofs.lemmas.Bool.{and_parts, cases_Bool, cases_eq, false≢true, not-true}
+use Rattle.std.proofs.Common.{◌≡◌, ◌≢◌, ◌<◌, ◌≤◌, ◌+◌, ◌==◌, ◌||◌, ◌∙◌, ℕ, zero, suc, Bool, true, false, drop, get_or, length, List, [], ◌∷◌, ◌++◌, ap, arith, eqb, inl, inr, not, refl, rules, subst, sym, take, take_all}
+use Rattle.std.proofs.lemmas.Bool.{and_parts, cases_eq, false≢true, not-true}
 use Rattle.std.proofs.lemmas.List.{drop-append-le, drop_all, drop_more, take-append-drop, take-append-le, take_more}
 use Rattle.std.proofs.lemmas.Map.Steps.{length-le_from_distinct_below}
-use Rattle.std.specs.List.{AllByRecursion, IsDistinct}
+use Rattle.std.specs.List.{IsDistinct}
+use Rattle.ep_facts.proofs.NatFacts.{from_test, same_test}
+use Rattle.ep_facts.proofs.BoolFacts.{or_cases, or_left, or_right}
+use Rattle.ep_facts.proofs.AmongFacts.{among_append, among_end, apart_from_all}
 use Rattle.ep_base.specs.declared.ids.EntryId.{EntryId}
 use Rattle.ep_calls.specs.Parts.{Parts}
 use Rattle.ep_dates.proofs.AskLemmas.{shows_rises}
-use Rattle.ep_dates.proofs.RowLemmas.{among_end}
 use Rattle.ep_dates.proofs.TurnLemmas.{not_both, settled_on, turns_both, turns_less}
 use Rattle.ep_dates.specs.Ask.{AreSettled, AreTurned, AreWatched, Asks, IsSettled, is_on, shows_over, watches}
 use Rattle.ep_dates.specs.Dates.{Dates, is_ready}
 use Rattle.ep_interest.specs.Registrations.{Registrations}
 use Rattle.ep_interest.specs.declared.entry.Entry.{Entry}
-use Rattle.ep_law.proofs.ListLemmas.{among_split}
-use Rattle.ep_law.proofs.TestLemmas.{from_test, or_left, or_right, same_test}
 use Rattle.ep_machine.specs.Lists.{are_distinct, is_among}
-use Rattle.ep_ready.specs.Walk.{Walk}
+use Rattle.ep_walk.specs.Walk.{Walk}
 
 -- No more are noted than there is room for.
-apart_from_all : (k : ℕ) (ks : List ℕ) → is_among ks k ≡ false → AllByRecursion (λ y. eqb k y ≡ false) ks
-apart_from_all k [] h = tt
-apart_from_all k (j ∷ ks) h = elim (cases_Bool (eqb k j)) [
-  | inl same ↦ absurd (let bad : true ≡ false = sym (ap (λ (b : Bool). b || is_among ks k) same) ∙ h in cc)
-  | inr apart ↦ (apart, apart_from_all k ks (sym (ap (λ (b : Bool). b || is_among ks k) apart) ∙ h))
-]
 
 pub as_distinct : (ks : List ℕ) → are_distinct ks ≡ true → IsDistinct eqb ks
 unfolding IsDistinct
@@ -32,12 +26,8 @@ as_distinct [] h = tt
 as_distinct (k ∷ ks) h =
     let parts = and_parts (not (is_among ks k)) (are_distinct ks) h in (apart_from_all k ks (not-true (is_among ks k) parts.0), as_distinct ks parts.1)
 
-or_either : (a b : Bool) → (a || b) ≡ true → (a ≡ true) ⊎ (b ≡ true)
-or_either true b h = inl refl
-or_either false b h = inr h
-
 take_among : (i : ℕ) (xs : List ℕ) (k : ℕ) → is_among (take i xs) k ≡ true → is_among xs k ≡ true
-take_among i xs k h = ap (λ (l : List ℕ). is_among l k) (sym (take-append-drop i xs)) ∙ (among_split (take i xs) (drop i xs) k ∙ or_left (is_among (take i xs) k) (is_among (drop i xs) k) h)
+take_among i xs k h = ap (λ (l : List ℕ). is_among l k) (sym (take-append-drop i xs)) ∙ (among_append (take i xs) (drop i xs) k ∙ or_left (is_among (take i xs) k) (is_among (drop i xs) k) h)
 
 pub among_at : (xs : List ℕ) (i : ℕ) → i < length xs → is_among xs (get_or xs i 0) ≡ true
 among_at [] i lt = absurd (omega (arith, lt))
@@ -75,7 +65,7 @@ module _ (way : Bool) (n : ℕ) (p : Parts) where
         wider : IsSettled way shows c t.more x → IsSettled way shows c (rest ++ t.more) x
         wider (inl dated) = inl dated
         wider (inr (inl idle)) = inr (inl idle)
-        wider (inr (inr waits)) = inr (inr (among_split rest t.more x.desc.0 ∙ or_right (is_among rest x.desc.0) (is_among t.more x.desc.0) waits))
+        wider (inr (inr waits)) = inr (inr (among_append rest t.more x.desc.0 ∙ or_right (is_among rest x.desc.0) (is_among t.more x.desc.0) waits))
 
         first : drop i b.turned.reached ≡ desc ∷ rest
         first = drop_more b.turned.reached i 0 lt ∙ ap (λ (k : ℕ). k ∷ rest) here
@@ -100,7 +90,7 @@ module _ (way : Bool) (n : ℕ) (p : Parts) where
   pub round_watched : (b c : Dates) (i desc : ℕ) (t : Asks way n p (watches r desc) b c) → AreTurned way b → i < length b.turned.reached → get_or b.turned.reached i 0 ≡ desc
       → AreWatched way p b (take i b.turned.reached) → AreWatched way p c (take (i + 1) c.turned.reached)
   round_watched b c i desc t turned lt here watched id x at h =
-      elim (or_either (is_among (take i b.turned.reached) x.desc.0) (x.desc.0 == desc) (sym (ap (λ (l : List ℕ). is_among l x.desc.0) seen ∙ among_end (take i b.turned.reached) desc x.desc.0) ∙ h)) [
+      elim (or_cases (is_among (take i b.turned.reached) x.desc.0) (x.desc.0 == desc) (sym (ap (λ (l : List ℕ). is_among l x.desc.0) seen ∙ among_end (take i b.turned.reached) desc x.desc.0) ∙ h)) [
         | inl early ↦ settled_there b c (watches r desc) t turned id x (take_among i b.turned.reached x.desc.0 early) (settled_on way n r shows (shows_rises p) (watches r desc) b c t [] id x at (watched id x at early))
         | inr last ↦
             let one = from_test x.desc.0 desc last in

@@ -1,16 +1,16 @@
 -- Registrations turn one way, one after another.
 use Rattle.std.proofs.Common.{◌≡◌, ◌<◌, ◌||◌, ◌∙◌, ◌⊎◌, ℕ, Bool, true, false, List, [], ◌++◌, Some, ap, append-nil, append_assoc, inl, inr, not, refl, subst, sym}
 use Rattle.std.proofs.lemmas.Bool.{cases_Bool, false≢true}
+use Rattle.ep_facts.proofs.AmongFacts.{among_append}
+use Rattle.ep_facts.proofs.BoolFacts.{or_cases, or_left, or_right}
 use Rattle.ep_base.specs.declared.ids.EntryId.{EntryId}
 use Rattle.ep_dates.specs.Ask.{AreSettled, AreTurned, IsSettled, Turns, shows_by}
 use Rattle.ep_dates.specs.Dates.{Dates, is_dated, is_ready}
 use Rattle.ep_dates.specs.Kept.{AreKept}
 use Rattle.ep_interest.specs.Registrations.{Registrations, entry_under}
 use Rattle.ep_interest.specs.declared.entry.Entry.{Entry}
-use Rattle.ep_law.proofs.ListLemmas.{among_split}
-use Rattle.ep_law.proofs.TestLemmas.{or_left, or_right}
 use Rattle.ep_machine.specs.Lists.{is_among}
-use Rattle.ep_ready.specs.Walk.{Walk}
+use Rattle.ep_walk.specs.Walk.{Walk}
 
 -- Truth values.
 pub either_way : (b way : Bool) → (b ≡ way) ⊎ (b ≡ not way)
@@ -22,10 +22,6 @@ either_way false false = inl refl
 pub not_both : (b way : Bool) → b ≡ way → b ≡ not way → ⊥
 not_both b true t f = false≢true (sym f ∙ t)
 not_both b false f t = false≢true (sym f ∙ t)
-
-or_either : (a b : Bool) → (a || b) ≡ true → (a ≡ true) ⊎ (b ≡ true)
-or_either true b h = inl refl
-or_either false b h = inr h
 
 -- as more instances are ready (or fewer), what shows something (or nothing) goes on so
 pub shows_kept : (way a b : Bool) (f : Bool → Bool) → (f false ≡ true → f true ≡ true) → (a ≡ way → b ≡ way) → f a ≡ way → f b ≡ way
@@ -53,10 +49,10 @@ module _ (way : Bool) (n : ℕ) (r : Registrations) (shows : Bool → Entry → 
   settled_on asked b c t pending id x at (inr (inl idle)) = elim (either_way (shows_by shows c x) way) [
     | inl up ↦
         let both = shows_turned way (is_ready b x.desc.0) (is_ready c x.desc.0) (λ f. shows f x) (t.rises x.desc.0) idle up in
-        inr (inr (among_split pending t.more x.desc.0 ∙ or_right (is_among pending x.desc.0) (is_among t.more x.desc.0) (t.noted x.desc.0 both.0 both.1)))
+        inr (inr (among_append pending t.more x.desc.0 ∙ or_right (is_among pending x.desc.0) (is_among t.more x.desc.0) (t.noted x.desc.0 both.0 both.1)))
     | inr still ↦ inr (inl still)
   ]
-  settled_on asked b c t pending id x at (inr (inr waits)) = inr (inr (among_split pending t.more x.desc.0 ∙ or_left (is_among pending x.desc.0) (is_among t.more x.desc.0) waits))
+  settled_on asked b c t pending id x at (inr (inr waits)) = inr (inr (among_append pending t.more x.desc.0 ∙ or_left (is_among pending x.desc.0) (is_among t.more x.desc.0) waits))
 
   -- nothing is done
   pub turns_none : (asked : ℕ → Bool) (d : Dates) → AreKept r d → AreSettled way r shows d [] asked → Turns way n r shows asked d d
@@ -133,24 +129,24 @@ module _ (way : Bool) (n : ℕ) (r : Registrations) (shows : Bool → Entry → 
         | inr down ↦ t.begins id x at down is
       ];
       rises = λ i h. t.rises i (s.rises i h);
-      flips = λ i h. elim (or_either (is_among s.more i) (is_among t.more i) (sym (among_split s.more t.more i) ∙ h)) [
+      flips = λ i h. elim (or_cases (is_among s.more i) (is_among t.more i) (sym (among_append s.more t.more i) ∙ h)) [
         | inl e ↦ let both = s.flips i e in (both.0, t.rises i both.1, both.2)
         | inr e ↦
             let both = t.flips i e in
             (elim (either_way (is_ready a i) way) [ inl up ↦ absurd (not_both (is_ready b i) way (s.rises i up) both.0) | inr ne ↦ ne ], both.1, subst (λ (w : Walk). i < w.room) s.turned both.2)
       ];
-      noted = λ i was is. among_split s.more t.more i ∙ elim (either_way (is_ready b i) way) [
+      noted = λ i was is. among_append s.more t.more i ∙ elim (either_way (is_ready b i) way) [
         | inl e ↦ or_left (is_among s.more i) (is_among t.more i) (s.noted i was e)
         | inr ne ↦ or_right (is_among s.more i) (is_among t.more i) (t.noted i ne is)
       ];
       order = λ o. t.order (s.order o);
-      settled = λ id x at h. elim (or_either (p id.0) (q id.0) h) [
+      settled = λ id x at h. elim (or_cases (p id.0) (q id.0) h) [
         | inl e ↦ settled_on q b c t s.more id x at (s.settled id x at e)
         | inr e ↦ elim (t.settled id x at e) [
           | inl dated ↦ inl dated
           | inr rest ↦ elim rest [
             | inl idle ↦ inr (inl idle)
-            | inr waits ↦ inr (inr (among_split s.more t.more x.desc.0 ∙ or_right (is_among s.more x.desc.0) (is_among t.more x.desc.0) waits))
+            | inr waits ↦ inr (inr (among_append s.more t.more x.desc.0 ∙ or_right (is_among s.more x.desc.0) (is_among t.more x.desc.0) waits))
           ]
         ]
       ];
@@ -162,7 +158,7 @@ module _ (way : Bool) (n : ℕ) (r : Registrations) (shows : Bool → Entry → 
 
 -- what is noted goes on as it turned
 pub turned_still : (way : Bool) (n : ℕ) (r : Registrations) (shows : Bool → Entry → Bool) (asked : ℕ → Bool) (a b : Dates) → AreTurned way a → Turns way n r shows asked a b → AreTurned way b
-turned_still way n r shows asked a b turned t i h = elim (or_either (is_among a.turned.reached i) (is_among t.more i) (sym (among_split a.turned.reached t.more i) ∙ (ap (λ (w : Walk). is_among w.reached i) (sym t.turned) ∙ h))) [
+turned_still way n r shows asked a b turned t i h = elim (or_cases (is_among a.turned.reached i) (is_among t.more i) (sym (among_append a.turned.reached t.more i) ∙ (ap (λ (w : Walk). is_among w.reached i) (sym t.turned) ∙ h))) [
   | inl e ↦ let was = turned i e in (t.rises i was.0, subst (λ (w : Walk). i < w.room) (sym t.turned) was.1)
   | inr e ↦ let flip = t.flips i e in (flip.1, subst (λ (w : Walk). i < w.room) (sym t.turned) flip.2)
 ]

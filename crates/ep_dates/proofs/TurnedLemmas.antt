@@ -1,9 +1,11 @@
 -- Registrations on an instance that turned.
-use Rattle.std.proofs.Common.{◌≡◌, ◌==◌, ◌&&◌, ◌||◌, ◌∙◌, ◌⊎◌, ◌++◌, ℕ, Bool, true, false, List, [], ◌∷◌, None, Option, Some, ap, arith, filter, inl, inr, nat_lt, not, refl, subst, sym, unwrap_or}
+use Rattle.std.proofs.Common.{◌≡◌, ◌&&◌, ◌||◌, ◌∙◌, ◌++◌, ℕ, Bool, true, false, List, [], ◌∷◌, None, Option, Some, ap, filter, inl, inr, nat_lt, not, refl, subst, sym, unwrap_or}
 use Rattle.std.specs.Prelude.{bit_and}
 use Rattle.std.proofs.lemmas.Bool.{false≢true}
-use Rattle.std.proofs.lemmas.Bool.Decides.{nat_tests}
 use Rattle.std.proofs.lemmas.Nat.{and_comm, and_or_apart}
+use Rattle.ep_facts.proofs.AmongFacts.{among_append}
+use Rattle.ep_facts.proofs.BoolFacts.{or_cases}
+use Rattle.ep_facts.proofs.NatFacts.{from_test, positive}
 use Rattle.ep_base.specs.declared.ids.DescId.{DescId}
 use Rattle.ep_base.specs.declared.ids.EntryId.{EntryId}
 use Rattle.ep_base.specs.declared.object.End.{End}
@@ -19,25 +21,22 @@ use Rattle.ep_dates.specs.Kept.{AreKept}
 use Rattle.ep_interest.specs.Registrations.{IsSound, Registrations, entry_under, id_of, ids, is_on}
 use Rattle.ep_interest.specs.declared.entry.Entry.{Entry}
 use Rattle.ep_law.proofs.GraphLemmas.{member_of_map}
-use Rattle.ep_law.proofs.ListLemmas.{among_split, filtered_member, filtered_passes}
-use Rattle.ep_law.proofs.TestLemmas.{from_test}
+use Rattle.ep_law.proofs.ListLemmas.{filtered_member, filtered_passes}
 use Rattle.ep_law.specs.Laws.{Member}
 use Rattle.ep_machine.specs.Bits.{ERR, ET, HUP, IN, asked, has_bit, union, when}
 use Rattle.ep_machine.specs.Files.{object_of, side_of}
 use Rattle.ep_machine.specs.Lists.{is_among}
 use Rattle.ep_machine.specs.Objects.{Object, instance, is_instance, plain}
 use Rattle.ep_machine.specs.Readiness.{present_of}
-use Rattle.ep_ready.specs.Walk.{Walk}
-use Rattle.ep_rings.specs.KeyWalk.{id_at}
+use Rattle.ep_walk.specs.Walk.{Walk}
+use Rattle.ep_rings.specs.KeyWalk.{entry_id}
 use Rattle.ep_rings.specs.PlacedRows.{keys_at}
 use Rattle.ep_view.proofs.ClimbLemmas.{zero_asked}
 
 -- a mask asks for IN exactly if it has that bit
 asked_in : (mask : ℕ) → nat_lt 0 (asked mask IN) ≡ has_bit mask IN
 asked_in mask =
-    ap (nat_lt 0) (and_comm IN (union (mask ∷ ERR ∷ HUP ∷ [])) ∙ and_or_apart IN mask (union (ERR ∷ HUP ∷ [])) refl) ∙ positive (bit_and mask IN) where
-      positive : (n : ℕ) → nat_lt 0 n ≡ not (n == 0)
-      positive n = grind (arith, nat_tests)
+    ap (nat_lt 0) (and_comm IN (union (mask ∷ ERR ∷ HUP ∷ [])) ∙ and_or_apart IN mask (union (ERR ∷ HUP ∷ [])) refl) ∙ positive (bit_and mask IN)
 
 -- On an instance that is ready something shows where IN is asked for, on one that isn't nothing does.
 module _ (d : ℕ) (e : End) (now mask : ℕ) (armed rest : Bool) where
@@ -87,21 +86,17 @@ module _ (p : Parts) (homes : AreHomes p) where
   row_home d kept i h =
       let first = has_first (keys_at d.rows i) h in
       let found = kept.only i first.0 first.1 in
-      subst (λ (k : ℕ). is_nested_key p.tables (record { 0 = k }) ≡ true) found.2 (homes (id_at first.0) found.0 found.1)
+      subst (λ (k : ℕ). is_nested_key p.tables (record { 0 = k }) ≡ true) found.2 (homes (entry_id first.0) found.0 found.1)
 
   -- what turns is an instance
   turned_home : (way : Bool) (n : ℕ) (asked : ℕ → Bool) (a b : Dates) → AreKept p.interest a → (t : Asks way n p asked a b) → (i : ℕ) → is_among t.more i ≡ true → is_nested_key p.tables (record { 0 = i }) ≡ true
   turned_home true n asked a b kept t i h = row_home b t.kept i (t.flips i h).1
   turned_home false n asked a b kept t i h = row_home a kept i (t.flips i h).0
 
-  or_either : (u v : Bool) → (u || v) ≡ true → (u ≡ true) ⊎ (v ≡ true)
-  or_either true v h = inl refl
-  or_either false v h = inr h
-
   -- so what is noted goes on to be instances
   pub instances_still : (way : Bool) (n : ℕ) (asked : ℕ → Bool) (a b : Dates) → AreKept p.interest a → Asks way n p asked a b → AreInstances p a.turned.reached → AreInstances p b.turned.reached
   instances_still way n asked a b kept t old i h =
-      elim (or_either (is_among a.turned.reached i) (is_among t.more i) (sym (among_split a.turned.reached t.more i) ∙ (ap (λ (w : Walk). is_among w.reached i) (sym t.turned) ∙ h))) [
+      elim (or_cases (is_among a.turned.reached i) (is_among t.more i) (sym (among_append a.turned.reached t.more i) ∙ (ap (λ (w : Walk). is_among w.reached i) (sym t.turned) ∙ h))) [
         | inl was ↦ old i was
         | inr new ↦ turned_home way n asked a b kept t i new
       ]

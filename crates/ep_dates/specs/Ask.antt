@@ -11,7 +11,7 @@ use Rattle.ep_interest.specs.Registrations.{Registrations, entry_under}
 use Rattle.ep_interest.specs.declared.entry.Entry.{Entry}
 use Rattle.ep_machine.specs.Bits.{ET, IN, has_bit}
 use Rattle.ep_machine.specs.Lists.{is_among}
-use Rattle.ep_rings.specs.KeyWalk.{id_at as key_of}
+use Rattle.ep_rings.specs.KeyWalk.{entry_id as key_of}
 
 -- Where `shows ready x` says whether registration x is reportable if what it watches is ready, or is not: whether it is
 -- by the rows.

@@ -1,8 +1,8 @@
 -- What contracts see of the dates: since which event each registration is reportable, and which are, by instance.
-use Rattle.std.specs.Prelude.{◌<◌, ◌≡◌, ◌≤◌, Bool, List, [], if◌then◌else◌, is_some, length, nat_lt, slice_index_or, slice_set, ℕ}
+use Rattle.std.specs.Prelude.{◌<◌, ◌≡◌, ◌≤◌, Bool, List, [], None, Option, Some, if◌then◌else◌, is_some, length, nat_lt, slice_index_or, slice_set, ℕ}
 use Rattle.ep_base.specs.declared.ids.EntryId.{EntryId}
 use Rattle.ep_interest.specs.declared.entry.Entry.{Entry}
-use Rattle.ep_ready.specs.Walk.{Walk, with_reached}
+use Rattle.ep_walk.specs.Walk.{Walk, with_reached}
 use Rattle.ep_rings.specs.PlacedRows.{KeepsRows, PlacedRows, first_in, keys_at, no_rows, with_key, without_key}
 
 pub record Dates : Type 0 where
@@ -14,6 +14,10 @@ pub record Dates : Type 0 where
 -- what is kept at a number
 abbrev pub event_at : List ℕ → ℕ → ℕ
 event_at since k = slice_index_or since k 0
+
+-- the event since which the registration with a number is reportable, if it is
+abbrev pub date_at : Dates → ℕ → Option ℕ
+date_at d k = if nat_lt 0 (event_at d.since k) then Some (event_at d.since k) else None
 
 -- the key of the registration with a number
 abbrev pub id_at : List EntryId → ℕ → EntryId

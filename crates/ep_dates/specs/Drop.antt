@@ -9,7 +9,7 @@ use Rattle.ep_dates.specs.Order.{AreInTurn}
 use Rattle.ep_interest.specs.Registrations.{Registrations, entry_under}
 use Rattle.ep_interest.specs.declared.entry.Entry.{Entry}
 use Rattle.ep_machine.specs.Lists.{is_among}
-use Rattle.ep_rings.specs.KeyWalk.{id_at as key_of}
+use Rattle.ep_rings.specs.KeyWalk.{entry_id as key_of}
 
 -- those with such keys are dated no more, all others as they were, and what lost the last of its row is noted
 pub record Drops (r : Registrations) (gone : ℕ → Bool) (old new : Dates) : Type 0 where

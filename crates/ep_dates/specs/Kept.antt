@@ -5,7 +5,7 @@ use Rattle.ep_dates.specs.Dates.{Dates, HasPlace, id_at, is_dated}
 use Rattle.ep_interest.specs.Registrations.{Registrations, entry_under}
 use Rattle.ep_interest.specs.declared.entry.Entry.{Entry}
 use Rattle.ep_machine.specs.Lists.{is_among}
-use Rattle.ep_rings.specs.KeyWalk.{id_at as key_of}
+use Rattle.ep_rings.specs.KeyWalk.{entry_id as key_of}
 use Rattle.ep_rings.specs.PlacedRows.{keys_at}
 
 -- each has a place, an instance has in its row exactly the keys of its registrations that are dated, and these have

@@ -6,8 +6,8 @@ use Rattle.ep_dates.specs.Order.{date_under}
 use Rattle.ep_interest.specs.Registrations.{Registrations, entry_under}
 use Rattle.ep_interest.specs.declared.entry.Entry.{Entry}
 use Rattle.ep_machine.specs.Lists.{are_distinct, is_among}
-use Rattle.ep_ready.specs.Walk.{Walk}
-use Rattle.ep_rings.specs.KeyWalk.{id_at as key_of}
+use Rattle.ep_walk.specs.Walk.{Walk}
+use Rattle.ep_rings.specs.KeyWalk.{entry_id as key_of}
 use Rattle.ep_rings.specs.PlacedRows.{keys_at}
 
 -- the registration of an instance with this number, which is reportable

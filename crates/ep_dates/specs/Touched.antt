@@ -8,7 +8,7 @@ use Rattle.ep_interest.specs.Passes.{passes_on}
 use Rattle.ep_interest.specs.Registrations.{Registrations, entry_under}
 use Rattle.ep_interest.specs.declared.entry.Entry.{Entry}
 use Rattle.ep_machine.specs.Lists.{is_among}
-use Rattle.ep_rings.specs.KeyWalk.{id_at as key_of}
+use Rattle.ep_rings.specs.KeyWalk.{entry_id as key_of}
 
 -- What an event touched: the registration that it added or modified, the instances that IN reached, the numbers of the
 -- registrations that it reported, the description on whose object it was a call, and the instances that lost a

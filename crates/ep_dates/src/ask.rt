@@ -53,8 +53,7 @@ pub fn ask(parts: &Parts, question: Question, id: EntryId, dates: &mut Dates)
     let Some(entry) = parts.interest.get(id) else {
         return;
     };
-    let is_dated = dates.since(entry.number).is_event();
-    if is_dated == question.comes {
+    if dates.is_dated(entry.number) == question.comes {
         return;
     }
     if shows(parts, dates, entry) != question.comes {
@@ -117,8 +116,7 @@ fn ask_on_turned(parts: &Parts, question: Question, id: EntryId, dates: &mut Dat
     let Some(entry) = parts.interest.get(id) else {
         return;
     };
-    let is_dated = dates.since(entry.number).is_event();
-    if is_dated == question.comes {
+    if dates.is_dated(entry.number) == question.comes {
         return;
     }
     if !question.comes {

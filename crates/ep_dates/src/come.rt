@@ -11,7 +11,7 @@ use crate::dates::Dates;
 use crate::touched::Touched;
 use ep_base::{DescId, EntryId, EventNumber};
 use ep_calls::Parts;
-use ep_ready::Walk;
+use ep_walk::Walk;
 use std::alloc::Global;
 
 /// Asks the registration that an epoll_ctl altered, if it did.

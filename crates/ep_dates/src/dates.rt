@@ -1,13 +1,13 @@
 //! Since which event registrations are reportable, and which registrations of an instance are.
-ghost use Rattle.std.specs.Prelude.{◌≡◌, ◌<◌, ℕ, Some, false, length, slice_get, true};
+ghost use Rattle.std.specs.Prelude.{◌≡◌, ◌<◌, ℕ, Some, false, length, nat_lt, slice_get, true};
 ghost use Rattle.ep_machine.specs.Lists.{are_distinct, is_among};
 ghost use Rattle.ep_rings.specs.PlacedRows.{keys_at};
-ghost use Rattle.ep_dates.specs.Dates.{HasPlace, begun, ended, event_at, forgot, id_at, is_ready, renewed};
+ghost use Rattle.ep_dates.specs.Dates.{HasPlace, begun, date_at, ended, event_at, forgot, id_at, is_ready, renewed};
 
 use ep_base::{DescId, EntryId, EntryNumber, EventNumber};
 use ep_interest::Entry;
-use ep_ready::Walk;
 use ep_rings::PlacedRows;
+use ep_walk::Walk;
 use std::alloc::{AllocError, Global};
 use std::marker::Model;
 use std::mem;
@@ -37,15 +37,25 @@ impl Model for Dates {
 }
 
 impl Dates {
-    /// The event since which the registration with a number is reportable without a report; 0 where it is not.
-    pub fn since(&self, number: EntryNumber) -> EventNumber
-        ensures { result ≡ event_at self.now.since number }
+    /// The event since which the registration with a number is reportable without a report, if it is.
+    #[inline(always)]
+    pub(crate) fn since(&self, number: EntryNumber) -> Option<EventNumber>
+        ensures { result ≡ date_at self.now number }
     {
         let _rows = &self.rows;
-        match self.since.get(number.0 as usize) {
-            Some(event) => *event,
-            None => EventNumber(0),
+        let event = *self.since.get(number.0 as usize)?;
+        if event.is_event() {
+            return Some(event);
         }
+        None
+    }
+
+    /// Whether the registration with a number is reportable.
+    #[inline(always)]
+    pub fn is_dated(&self, number: EntryNumber) -> bool
+        ensures { result ≡ nat_lt 0 (event_at self.now.since number) }
+    {
+        self.since(number).is_some()
     }
 
     /// Whether an instance has a registration that is reportable.

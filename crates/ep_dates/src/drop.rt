@@ -20,7 +20,7 @@ pub fn drop_one(interest: &Interest, id: EntryId, dates: &mut Dates)
     let Some(entry) = interest.get(id) else {
         return;
     };
-    if dates.since(entry.number).0 == 0 {
+    if !dates.is_dated(entry.number) {
         return;
     }
     dates.end(id, entry);

@@ -8,7 +8,7 @@ ghost use Rattle.ep_rings.specs.PlacedRows.{keys_at};
 use crate::dates::Dates;
 use ep_base::{DescId, EntryId, EntryNumber, EventNumber};
 use ep_interest::Interest;
-use ep_ready::Walk;
+use ep_walk::Walk;
 use std::alloc::Global;
 
 /// Flags the registration of an instance with a number, and answers the event of its last report. `None` if it is not
@@ -28,7 +28,7 @@ fn flag(
         (FlagsNone interest.now dates.now instance.0 number flags.old) }
     ensures room { flags.new.room ≡ flags.old.room }
 {
-    if dates.since(number).0 == 0 {
+    if !dates.is_dated(number) {
         return None;
     }
     let id = dates.id(number);
@@ -129,7 +129,10 @@ fn are_late(
     let Some(entry) = interest.get(id) else {
         return true;
     };
-    latest.0 <= dates.since(entry.number).0
+    let Some(since) = dates.since(entry.number) else {
+        return true;
+    };
+    latest.0 <= since.0
 }
 
 /// Whether a report at an instance that takes `most` at most may be of the registrations with these numbers: different

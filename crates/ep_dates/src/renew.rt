@@ -21,7 +21,7 @@ fn renew(parts: &Parts, event: EventNumber, number: EntryNumber, dates: &mut Dat
     if entry.number.0 != number.0 {
         return;
     }
-    if dates.since(number).0 == 0 {
+    if !dates.is_dated(number) {
         return;
     }
     dates.renew(id, entry, event);

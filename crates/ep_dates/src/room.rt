@@ -4,8 +4,8 @@ ghost use Rattle.ep_dates.specs.Dates.{AreNew, HasRoom, Widens, event_at, id_at}
 
 use crate::dates::Dates;
 use ep_base::{DescId, EntryId, EntryNumber, EventNumber};
-use ep_ready::Walk;
 use ep_rings::PlacedRows;
+use ep_walk::Walk;
 use std::alloc::{AllocError, Global};
 
 /// Makes dates of at least so many numbers. Those that are new are 0. An `Err` is want of memory.

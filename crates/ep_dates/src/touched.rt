@@ -1,7 +1,7 @@
 //! What an event touched.
 
 use ep_base::{DescId, EntryId, EntryNumber};
-use ep_ready::Walk;
+use ep_walk::Walk;
 use std::alloc::Global;
 
 /// What an event touched, by which it may have made registrations reportable, or ended that they are.

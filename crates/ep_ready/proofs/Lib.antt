@@ -1,3 +1,1 @@
-pub mod KeyLemmas
-pub mod ReadyLemmas
-pub mod WalkLemmas
+pub mod TiedLemmas

@@ -1,3 +1,2 @@
 pub mod ReadyLists
-pub mod Walk
 pub mod Tied

@@ -1,17 +1,15 @@
 -- What contracts see of the ready lists.
 use Rattle.std.specs.Prelude.{◌≡◌, ◌≢◌, ◌<◌, ℕ, Bool, true, false, not, ◌==◌, List, [], ◌∷◌, ◌++◌, Option, Some}
 use Rattle.std.specs.Prelude.{None, slice_index_or, slice_set, filter, if◌then◌else◌, length, map}
+use Rattle.ep_rings.specs.KeyWalk.{entry_id}
 use Rattle.ep_base.specs.declared.ids.EntryId.{EntryId}
 use Rattle.ep_machine.specs.Lists.{are_distinct, is_among}
-use Rattle.ep_rings.specs.Rings.{rotation_of}
+use Rattle.ep_rings.specs.PlacedRows.{rotation_of}
 
 -- keys of instances and of registrations
 pub record Lists : Type 0 where
   pub places : List (Option ℕ)  -- the instance of each registration that has a place
   pub lists : List (List ℕ)  -- the registrations on the list of each instance, in order
-
-abbrev pub entry_id : ℕ → EntryId
-entry_id k = record { 0 = k }
 
 abbrev pub ids : List ℕ → List EntryId
 ids ks = map entry_id ks

@@ -1,37 +1,29 @@
--- How places stand for registrations.
-use Rattle.std.specs.Prelude.{◌≡◌, ℕ, List, Option, Some, None, slice_index_or, map}
-use Rattle.ep_rings.specs.declared.rings.PlaceId.{PlaceId}
-use Rattle.ep_rings.specs.Rings.{Place, Rings, owner_of}
+-- How places and rows stand for the lists.
+use Rattle.std.specs.Prelude.{◌≡◌, ◌<◌, ◌==◌, ◌&&◌, ℕ, Bool, false, List, IfSome, Option, Some, None, length, map, slice_index_or}
+use Rattle.ep_machine.specs.Lists.{is_among}
+use Rattle.ep_rings.specs.PlacedRows.{PlacedRows, keys_at}
 use Rattle.ep_ready.specs.ReadyLists.{Lists}
-
-abbrev pub at_key : List (Option Place) → ℕ → Option Place
-at_key places k = slice_index_or places k None
+use Rattle.ep_ready.specs.declared.ready.Place.{Place}
 
 -- the place of the registration with this key
-abbrev pub id_at_key : List (Option PlaceId) → ℕ → Option PlaceId
-id_at_key ids e = slice_index_or ids e None
+abbrev pub place_at : List (Option Place) → ℕ → Option Place
+place_at places e = slice_index_or places e None
 
-abbrev pub entry_in : Option Place → Option ℕ
-entry_in None = None
-entry_in (Some p) = Some p.entry
+abbrev pub instance_of : Option Place → Option ℕ
+instance_of None = None
+instance_of (Some p) = Some p.instance.0
 
-abbrev pub key_in : Option Place → ℕ
-key_in None = 0
-key_in (Some p) = p.entry
+-- whether a place stands on the list of this instance
+abbrev pub stands_on : ℕ → Option Place → Bool
+stands_on i None = false
+stands_on i (Some p) = p.stands && p.instance.0 == i
 
--- the key of the registration whose place has this key
-abbrev pub key_at : List (Option Place) → ℕ → ℕ
-key_at places k = key_in (at_key places k)
+-- what the rows and the places mean
+abbrev pub value_of : PlacedRows → List (Option Place) → Lists
+value_of v places = record { places = map instance_of places; lists = v.rows }
 
-abbrev pub instance_of : List (Option Place) → Option PlaceId → Option ℕ
-instance_of places None = None
-instance_of places (Some p) = owner_of (at_key places p.0)
-
--- what the rings and the places of registrations mean
-abbrev pub value_of : Rings → List (Option PlaceId) → Lists
-value_of v ids = record { places = map (instance_of v.places) ids; lists = map (map (key_at v.places)) v.lists }
-
--- a place is a registration's exactly where the registration's place it is
-pub record IsTied (places : List (Option Place)) (ids : List (Option PlaceId)) : Type 0 where
-  pub fits : (e k : ℕ) → id_at_key ids e ≡ Some (record { 0 = k }) → entry_in (at_key places k) ≡ Some e
-  pub back : (e k : ℕ) → entry_in (at_key places k) ≡ Some e → id_at_key ids e ≡ Some (record { 0 = k })
+-- a row has exactly the keys whose places say so, and a key with a place has room in its instance's row
+pub record IsTied (v : PlacedRows) (places : List (Option Place)) : Type 0 where
+  pub listed : (i e : ℕ) → is_among (keys_at v i) e ≡ stands_on i (place_at places e)
+  pub row : (e : ℕ) → IfSome (place_at places e) (λ p. p.instance.0 < length v.rows)
+  pub key : (e : ℕ) → IfSome (place_at places e) (λ p. e < v.keys)

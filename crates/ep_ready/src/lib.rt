@@ -3,7 +3,5 @@
 #![tactic(auto)]
 
 mod ready;
-mod walk;
 
 pub use crate::ready::ReadyLists;
-pub use crate::walk::Walk;

@@ -1,21 +1,31 @@
 //! One list of registrations for each instance, by their own keys.
-ghost use Rattle.std.specs.Prelude.{◌≡◌, ◌<◌, ℕ, None, IsSome, is_some, OnOk, OnErr, length, slice_index_or};
+ghost use Rattle.std.specs.Prelude.{◌≡◌, ◌≤◌, ℕ, None, IsSome, is_some, OnOk, OnErr, length};
 ghost use Rattle.std.specs.Map.Iter.{ShowsInOrder};
 ghost use Rattle.ep_base.specs.declared.ids.EntryId.{EntryId};
 ghost use Rattle.ep_ready.specs.ReadyLists.{GainsPlace, IsSound, LosesPlace, Same, after_push, after_removal, after_rotation, empty, front_of, ids, instance_at, list_at, stands};
+ghost use Rattle.ep_ready.specs.Tied.{place_at};
 
 use ep_base::{DescId, EntryId};
-use ep_rings::{Iter, PlaceId, Rings};
+use ep_rings::{Keys, PlacedRows};
 use std::alloc::{AllocError, Allocator, Global};
 use std::marker::Model;
+
+/// The place of a registration.
+#[derive(Clone, Copy)]
+struct Place {
+    instance: DescId,
+    // Whether it stands on its instance's list.
+    stands: bool,
+}
 
 /// One list of registrations for each instance. A registration with a place stands on its instance's list or on none.
 /// Each call but `make_place` and a walk of `iter` takes constant time. Memory comes from `A`.
 #[derive(Drop)]
 pub struct ReadyLists<A: Allocator = Global> {
-    rings: Rings<A>,
+    // For each instance the keys of what stands on its list.
+    rows: PlacedRows<A>,
     // The place of each registration, by its key.
-    places: Vec<Option<PlaceId>, A>,
+    places: Vec<Option<Place>, A>,
 }
 
 impl<A: Allocator> Model for ReadyLists<A> {
@@ -24,22 +34,18 @@ impl<A: Allocator> Model for ReadyLists<A> {
 
     ghost Value = { Lists };
 
-    ghost view = { λ r. value_of r.rings r.places.items };
+    ghost view = { λ r. value_of r.rows r.places.items };
 
-    ghost invariant = { λ r. IsTied r.rings.places r.places.items };
+    ghost invariant = { λ r. IsTied r.rows r.places.items };
 }
 
-/// Adds the keys that are missing up to a registration's. No key has another place after it, whatever the result.
-fn add_keys<A: Allocator>(
-    places: &mut Vec<Option<PlaceId>, A>,
-    entry: usize,
-) -> Result<(), AllocError>
-    ensures same { (e : ℕ) → slice_index_or places.new.items e None
-        ≡ slice_index_or places.old.items e None }
-    ensures room { OnOk result (entry < length places.new.items) }
+/// Makes room for the places of the keys below a number. No key has another place after it, whatever the result.
+fn add_keys<A: Allocator>(places: &mut Vec<Option<Place>, A>, keys: usize) -> Result<(), AllocError>
+    ensures same { (e : ℕ) → place_at places.new.items e ≡ place_at places.old.items e }
+    ensures room { OnOk result (keys ≤ length places.new.items) }
 {
-    while places.len() <= entry {
-        places.push(None)?;
+    if places.len() < keys {
+        places.resize(keys, None)?;
     }
     Ok(())
 }
@@ -52,7 +58,7 @@ impl<A: Allocator> ReadyLists<A> {
         ensures { result ≡ empty }
     {
         ReadyLists {
-            rings: Rings::new(alloc),
+            rows: PlacedRows::new(alloc),
             places: Vec::new(alloc),
         }
     }
@@ -62,7 +68,7 @@ impl<A: Allocator> ReadyLists<A> {
     pub fn known(&self)
         ensures { IsSound self.now }
     {
-        self.rings.known();
+        self.rows.known();
     }
 
     /// Whether a registration has a place.
@@ -79,12 +85,11 @@ impl<A: Allocator> ReadyLists<A> {
     pub fn stands(&self, entry: EntryId) -> bool
         ensures { result ≡ stands self.now entry }
     {
-        self.rings.known();
         if entry.0 >= self.places.len() {
             return false;
         }
         match self.places[entry.0] {
-            Some(place) => self.rings.stands(place),
+            Some(place) => place.stands,
             None => false,
         }
     }
@@ -96,10 +101,14 @@ impl<A: Allocator> ReadyLists<A> {
         ensures made { OnOk result (GainsPlace self.old self.new instance.0 entry) }
         ensures refused { OnErr result (Same self.old self.new) }
     {
-        self.rings.known();
-        add_keys(&mut self.places, entry.0)?;
-        let place = self.rings.make_place(instance, entry)?;
-        self.places[entry.0] = Some(place);
+        let keys = entry.0.checked_add(1).ok_or(AllocError)?;
+        let instances = instance.0.checked_add(1).ok_or(AllocError)?;
+        add_keys(&mut self.places, keys)?;
+        self.rows.reserve(instances, keys)?;
+        self.places[entry.0] = Some(Place {
+            instance,
+            stands: false,
+        });
         Ok(())
     }
 
@@ -108,11 +117,8 @@ impl<A: Allocator> ReadyLists<A> {
         requires place { IsSome (instance_at self.old entry) }
         ensures { LosesPlace self.old self.new entry }
     {
-        self.rings.known();
-        let Some(place) = self.places[entry.0] else {
-            return;
-        };
-        self.rings.drop_place(place);
+        self.known();
+        self.remove(entry);
         self.places[entry.0] = None;
     }
 
@@ -121,10 +127,17 @@ impl<A: Allocator> ReadyLists<A> {
         requires place { IsSome (instance_at self.old entry) }
         ensures { self.new ≡ after_push self.old entry }
     {
-        self.rings.known();
-        if let Some(place) = self.places[entry.0] {
-            self.rings.push_back(place);
+        let Some(place) = self.places[entry.0] else {
+            return;
+        };
+        if place.stands {
+            return;
         }
+        self.rows.push(place.instance, entry);
+        self.places[entry.0] = Some(Place {
+            stands: true,
+            ..place
+        });
     }
 
     /// Takes a registration off its instance's list, where it stands on it.
@@ -132,38 +145,45 @@ impl<A: Allocator> ReadyLists<A> {
         requires place { IsSome (instance_at self.old entry) }
         ensures { self.new ≡ after_removal self.old entry }
     {
-        self.rings.known();
-        if let Some(place) = self.places[entry.0] {
-            self.rings.remove(place);
+        let Some(place) = self.places[entry.0] else {
+            return;
+        };
+        if !place.stands {
+            return;
         }
+        self.rows.remove(place.instance, entry);
+        self.places[entry.0] = Some(Place {
+            stands: false,
+            ..place
+        });
     }
 
     /// The first registration on an instance's list; `None` where the list is empty.
     pub fn front(&self, instance: DescId) -> Option<EntryId>
         ensures { result ≡ front_of self.now instance.0 }
     {
-        self.iter(instance).next()
+        self.rows.first(instance)
     }
 
     /// Moves the first registration on an instance's list to the end; an empty list stays empty.
     pub fn rotate(&mut self, instance: DescId)
         ensures { self.new ≡ after_rotation self.old instance.0 }
     {
-        self.rings.rotate(instance);
+        self.rows.rotate(instance);
     }
 
     /// How many registrations stand on an instance's list, which is kept and not counted.
     pub fn len(&self, instance: DescId) -> usize
         ensures { result ≡ length (list_at self.now instance.0) }
     {
-        self.rings.len(instance)
+        self.rows.len(instance)
     }
 
     /// The registrations on an instance's list, in order.
-    pub fn iter(&self, instance: DescId) -> Iter<'_, A>
+    pub fn iter(&self, instance: DescId) -> Keys<'_>
         ensures exact { result ≡ ids (list_at self.now instance.0) }
         ensures runs { ShowsInOrder (λ (id : EntryId). id) }
     {
-        self.rings.iter(instance)
+        self.rows.keys(instance)
     }
 }

@@ -8,12 +8,12 @@ use Rattle.std.proofs.lemmas.List.Edits.{length-remove}
 use Rattle.std.proofs.lemmas.List.Elements.{All-cons, All-contains, All-head, All-tail, Contains-get_or}
 use Rattle.std.proofs.lemmas.Map.Keys.{IsDistinct-from_apart}
 use Rattle.std.proofs.lemmas.Map.Steps.{length-le_from_distinct_below}
+use Rattle.ep_facts.proofs.NatFacts.{same_test, test_apart}
 use Rattle.ep_rings.specs.Ring.{IsRing, walk}
 use Rattle.ep_rings.proofs.RingLemmas.{ring_kept, ring_pushed, ring_removed, walk-ring}
-use Rattle.ep_rings.proofs.ViewLemmas.{filter-remove, kernel_watches}
+use Rattle.ep_rings.proofs.AmongLemmas.{filter-remove, filter_apart}
 use Rattle.ep_rings.specs.Circles.{IsCircle, keys_in, lengthened, shortened, without}
 use Rattle.ep_rings.specs.declared.circle.Circle.{Circle}
-use Rattle.ep_rings.proofs.TestLemmas.{test_apart, test_same}
 
 -- what stands behind a place of a ring, and at its end the head
 on_ring : (head : ℕ) (xs : List ℕ) (i : ℕ) → i ≤ length xs → Contains (head ∷ xs) (get_or xs i head)
@@ -39,7 +39,7 @@ at_head head xs zero k e is = is
 at_head head xs (suc i) k e is = sym (ap (λ (ys : List ℕ). get_or ys i head) e) ∙ is
 
 without_head : (k : ℕ) (xs : List ℕ) → filter (λ x. not (x == k)) (k ∷ xs) ≡ filter (λ x. not (x == k)) xs
-without_head k xs = rw (test_same k k refl) refl
+without_head k xs = rw (same_test k k refl) refl
 
 with_head : (x : ℕ) (xs : List ℕ) (k : ℕ) → x ≢ k → filter (λ x. not (x == k)) (x ∷ xs) ≡ x ∷ filter (λ x. not (x == k)) xs
 with_head x xs k ne = rw (test_apart x k ne) refl
@@ -52,7 +52,7 @@ module _ (next prev : ℕ → ℕ) where
       ap (λ m. walk next m c.first) n ∙ (ap (λ (ys : List ℕ). c.first ∷ ys) (walk-ring next prev c.first h.0 h.3) ∙ sym h.1)
 
   -- a ring from its second key on
-  rotated : (head b : ℕ) (xs : List ℕ) → IsRing next prev head (b ∷ xs) → IsRing next prev b (xs ++ head ∷ [])
+  pub rotated : (head b : ℕ) (xs : List ℕ) → IsRing next prev head (b ∷ xs) → IsRing next prev b (xs ++ head ∷ [])
   rotated head b xs r =
       let inner : (i : ℕ) → i ≤ length xs → get_or (xs ++ head ∷ []) i b ≡ get_or xs i head = behind xs in
       let whole : (i : ℕ) → i ≤ suc (length xs) → get_or (b ∷ xs ++ head ∷ []) i b ≡ get_or (b ∷ xs) i head = behind (b ∷ xs) in
@@ -131,7 +131,7 @@ module _ (next prev : ℕ → ℕ) where
             let none = no_items h.0 (omega (arith, few, long, h.2)) in
             let head : t.first ≡ k = at_head t.first h.0 i k none is in
             let same : k ≡ next k = sym head ∙ (sym (get_or_past h.0 i t.first (omega (arith, few, long, h.2))) ∙ sym behind) in
-            rw (ge, test_same k (next k) same) refl
+            rw (ge, same_test k (next k) same) refl
       ]
 
   pub alone : (o : Option Circle) (xs : List ℕ) (k : ℕ) → IsCircle next prev o xs → Contains xs k → IfSome o (λ c. nat_lt 1 c.len ≡ not (k == next k))
@@ -150,9 +150,9 @@ module _ (next prev : ℕ → ℕ) where
   begins (Some t) xs k h = inl (first_there t xs h)
 
   pub ends : (o : Option Circle) (xs : List ℕ) (k : ℕ) → IsCircle next prev o xs → (Contains xs (last_of (lengthened k o).first k)) ⊎ (last_of (lengthened k o).first k ≡ k)
-  ends None xs k h = inr (rw (test_same k k refl) refl)
+  ends None xs k h = inr (rw (same_test k k refl) refl)
   ends (Some t) xs k h = elim (cases_eq t.first k) [
-    | inl e ↦ inr (rw (test_same t.first k e) e)
+    | inl e ↦ inr (rw (same_test t.first k e) e)
     | inr ne ↦ inl (rw (test_apart t.first k ne) (prev_there (Some t) xs t.first h (first_there t xs h)))
   ]
 
@@ -270,9 +270,9 @@ module _ (next prev next' prev' : ℕ → ℕ) where
           let some = has_items h.0 (omega (arith, lt, m, h.2)) in
           let r : IsRing next prev k (some.0 ∷ some.1) = subst (λ (z : ℕ). IsRing next prev z (some.0 ∷ some.1)) e (subst (λ (ys : List ℕ). IsRing next prev t.first ys) some.2 h.3) in
           let is : xs ≡ k ∷ some.0 ∷ some.1 = h.1 ∙ (λ i. e i ∷ some.2 i) in
-          let kept : filter (λ x. not (x == k)) xs ≡ some.0 ∷ some.1 = ap (λ (ys : List ℕ). filter (λ x. not (x == k)) ys) is ∙ (without_head k (some.0 ∷ some.1) ∙ kernel_watches (some.0 ∷ some.1) k k (λ j l g. r.apart zero (suc j) (omega arith) (omega (arith, l)) (sym g))) in
+          let kept : filter (λ x. not (x == k)) xs ≡ some.0 ∷ some.1 = ap (λ (ys : List ℕ). filter (λ x. not (x == k)) ys) is ∙ (without_head k (some.0 ∷ some.1) ∙ filter_apart (some.0 ∷ some.1) k k (λ j l g. r.apart zero (suc j) (omega arith) (omega (arith, l)) (sym g))) in
           let n = ap length is in let o = ap length kept in
-          let begins : (without k (next k) t).first ≡ some.0 = rw (test_same t.first k e) (r.nexts zero (omega arith)) in
+          let begins : (without k (next k) t).first ≡ some.0 = rw (same_test t.first k e) (r.nexts zero (omega arith)) in
           circle_made (without k (next k) t) (filter (λ x. not (x == k)) xs) some.0 some.1 begins kept (omega (arith, h.2, n, o)) (left_first some.0 some.1 r)
 
       left_later : (t : Circle) (xs : List ℕ) (h : IsCircle next prev (Some t) xs) → t.first ≢ k → (j : ℕ) → j < length h.0 → get_or h.0 j t.first ≡ k → IsCircle next' prev' (Some (without k (next k) t)) (filter (λ x. not (x == k)) xs)

@@ -3,21 +3,21 @@ use Rattle.std.proofs.Common.{◌≡◌, ◌≢◌, ◌⊎◌, ℕ, zero, suc, �
 use Rattle.std.proofs.lemmas.Bool.{cases_eq, cases_lt}
 use Rattle.std.proofs.lemmas.List.{get_or_append_left, get_or_past, get_or_read, length-append}
 use Rattle.std.proofs.lemmas.List.Elements.{All-contains, All-filter, All-head, All-tail, All-push, All-weaker}
+use Rattle.ep_facts.proofs.NatFacts.{same_test, test_apart}
 use Rattle.ep_rings.specs.Ring.{walk}
-use Rattle.ep_rings.proofs.ViewLemmas.{kernel_watches}
+use Rattle.ep_rings.proofs.AmongLemmas.{filter_apart}
 use Rattle.ep_rings.specs.Circles.{AreCircles, AreRows, CanJoin, CanLeave, IsCircle, Joins, Leaves, Whose, keys_in, lengthened, own_head, row_of, shortened, with_head}
 use Rattle.ep_rings.specs.Links.{Joined, next_of, no_link, prev_of}
 use Rattle.ep_rings.specs.declared.circle.Circle.{Circle}
 use Rattle.ep_rings.specs.declared.link.Link.{Link}
-use Rattle.ep_rings.proofs.TestLemmas.{test_apart, test_same}
 use Rattle.ep_rings.specs.KeyWalk.{AreLinked}
 use Rattle.ep_rings.proofs.CircleLemmas.{alone, begins, circle_kept, circle_left, ends, few, first_there, joined_last, joined_new, keys_are, last_of, next_there, prev_there}
 
 -- the walks along the circles give the rows
-rows_are : (next prev : ℕ → ℕ) (circle : ℕ → Option Circle) (many : ℕ) (row : ℕ → List ℕ) → AreRows next prev circle many row → (i : ℕ) → keys_in next (circle i) ≡ row i
+pub rows_are : (next prev : ℕ → ℕ) (circle : ℕ → Option Circle) (many : ℕ) (row : ℕ → List ℕ) → AreRows next prev circle many row → (i : ℕ) → keys_in next (circle i) ≡ row i
 rows_are next prev circle many row h i = keys_are next prev (circle i) (row i) (h.circles i)
 
-rows_walked : (next prev : ℕ → ℕ) (circle : ℕ → Option Circle) (many : ℕ) (row : ℕ → List ℕ) → AreRows next prev circle many row → AreRows next prev circle many (λ i. keys_in next (circle i))
+pub rows_walked : (next prev : ℕ → ℕ) (circle : ℕ → Option Circle) (many : ℕ) (row : ℕ → List ℕ) → AreRows next prev circle many row → AreRows next prev circle many (λ i. keys_in next (circle i))
 rows_walked next prev circle many row h =
     let e : row ≡ (λ i. keys_in next (circle i)) = (λ t i. sym (rows_are next prev circle many row h i) t) in
     subst (AreRows next prev circle many) e h
@@ -36,7 +36,7 @@ at_other : (row : ℕ → List ℕ) (o k i : ℕ) → o ≢ i → (if nat_eq o i
 at_other row o k i ne = ap (λ (b : Bool). cond b (row i ++ k ∷ []) (row i)) (test_apart o i ne)
 
 at_own : (row : ℕ → List ℕ) (o k i : ℕ) → o ≡ i → (if nat_eq o i then row i ++ k ∷ [] else row i) ≡ row i ++ k ∷ []
-at_own row o k i e = ap (λ (b : Bool). cond b (row i ++ k ∷ []) (row i)) (test_same o i e)
+at_own row o k i e = ap (λ (b : Bool). cond b (row i ++ k ∷ []) (row i)) (same_test o i e)
 
 -- what holds of an owner's keys and of the one that joins
 All_joined : (P : ℕ → Type 0) (row : ℕ → List ℕ) (o k i : ℕ) → All P (row i) → P k → All P (if nat_eq o i then row i ++ k ∷ [] else row i)
@@ -101,7 +101,7 @@ module _ (s0 : List Link) (circle : ℕ → Option Circle) (many : ℕ) (row : �
     circles_joined : (i : ℕ) → IsCircle (next_of s2) (prev_of s2) (after i) (if nat_eq o i then row i ++ k ∷ [] else row i)
     circles_joined i = elim (cases_eq o i) [
       | inl e ↦
-          let now : after i ≡ Some (lengthened k (circle i)) = circles i ∙ (ap (λ (b : Bool). cond b (Some (lengthened k (circle o))) (circle i)) (test_same o i e) ∙ ap (λ j. Some (lengthened k (circle j))) e) in
+          let now : after i ≡ Some (lengthened k (circle i)) = circles i ∙ (ap (λ (b : Bool). cond b (Some (lengthened k (circle o))) (circle i)) (same_test o i e) ∙ ap (λ j. Some (lengthened k (circle j))) e) in
           rw (now, at_own row o k i e) (own_joined (circle i) (row i) (ap circle e) (ap row e))
       | inr ne ↦
           let now : after i ≡ circle i = circles i ∙ ap (λ (b : Bool). cond b (Some (lengthened k (circle o))) (circle i)) (test_apart o i ne) in
@@ -145,11 +145,11 @@ module _ (s0 s1 : List Link) (circle after : ℕ → Option Circle) (many : ℕ)
     circles_left : (i : ℕ) → IsCircle (next_of s1) (prev_of s1) (after i) (filter (λ x. not (x == k)) (row i))
     circles_left i = elim (cases_eq o i) [
       | inl e ↦
-          let now : after i ≡ shortened k (next_of s0 k) (circle i) = circles i ∙ (ap (λ (b : Bool). cond b (shortened k (next_of s0 k) (circle o)) (circle i)) (test_same o i e) ∙ ap (λ j. shortened k (next_of s0 k) (circle j)) e) in
+          let now : after i ≡ shortened k (next_of s0 k) (circle i) = circles i ∙ (ap (λ (b : Bool). cond b (shortened k (next_of s0 k) (circle o)) (circle i)) (same_test o i e) ∙ ap (λ j. shortened k (next_of s0 k) (circle j)) e) in
           rw now (circle_left (next_of s0) (prev_of s0) (next_of s1) (prev_of s1) k a.next_here a.prev_here a.next_else a.prev_else (circle i) (row i) (h.circles i) (subst (λ (j : ℕ). Contains (row j) k) e there))
       | inr ne ↦
           let now : after i ≡ circle i = circles i ∙ ap (λ (b : Bool). cond b (shortened k (next_of s0 k) (circle o)) (circle i)) (test_apart o i ne) in
-          let all = kernel_watches (row i) k k (λ j l. none_of row h.apart o i k ne there j k l) in
+          let all = filter_apart (row i) k k (λ j l. none_of row h.apart o i k ne there j k l) in
           let n = none_of row h.apart o i (next_of s0 k) ne (next_there (next_of s0) (prev_of s0) (circle o) (row o) k (h.circles o) there) in
           let p = none_of row h.apart o i (prev_of s0 k) ne (prev_there (next_of s0) (prev_of s0) (circle o) (row o) k (h.circles o) there) in
           rw (now, all) (circle_kept (next_of s0) (prev_of s0) (next_of s1) (prev_of s1) (circle i) (row i) (h.circles i) (one (row i) (prev_of s0 k) p (next_of s1) (next_of s0) a.next_else) (one (row i) (next_of s0 k) n (prev_of s1) (prev_of s0) a.prev_else))

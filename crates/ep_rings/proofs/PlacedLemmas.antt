@@ -1,31 +1,31 @@
 -- Rows whose circles begin where a list says.
-use Rattle.std.proofs.Common.{◌≡◌, ◌≢◌, ℕ, ◌<◌, ◌≤◌, ◌==◌, Bool, true, false, cond, not, All, Contains, List, [], ◌∷◌, ◌++◌, length, filter, map, get_or, set, nat_eq, Option, None, refl, sym, ap, subst, ◌∙◌, inl, inr, arith, if◌then◌else◌}
+use Rattle.std.proofs.Common.{◌≡◌, ◌≢◌, ℕ, ◌<◌, ◌≤◌, ◌==◌, Bool, true, false, cond, not, All, Contains, List, [], ◌∷◌, ◌++◌, length, filter, map, get_or, set, nat_eq, Option, None, Some, refl, sym, ap, subst, ◌∙◌, inl, inr, arith, if◌then◌else◌}
 use Rattle.std.proofs.lemmas.Bool.{cases_eq, cases_lt}
 use Rattle.std.proofs.lemmas.List.{ext_get_or, get_or-map, get_or-set_other, get_or-set_same, get_or_past, length-map, length-set}
 use Rattle.std.proofs.lemmas.List.Elements.{All-cons, All-contains}
+use Rattle.ep_facts.proofs.NatFacts.{same_test, test_apart}
 use Rattle.ep_machine.specs.Lists.{are_distinct, is_among}
-use Rattle.ep_rings.specs.Circles.{AreCircles, CanJoin, CanLeave, Joins, Leaves, Whose, keys_in, row_of, with_head}
+use Rattle.ep_rings.specs.Circles.{AreCircles, CanJoin, CanLeave, IsCircle, Joins, Leaves, Whose, keys_in, row_of, turned, with_head}
 use Rattle.ep_rings.specs.Links.{next_of, prev_of}
-use Rattle.ep_rings.specs.PlacedRows.{AreApart, KeepsRows, PlacedRows, head_at, keys_at, rows_from, with_key, with_row, without_key}
+use Rattle.ep_rings.specs.PlacedRows.{AreApart, KeepsRows, PlacedRows, head_at, keys_at, rotation_of, rows_from, with_key, with_row, with_turn, without_key}
 use Rattle.ep_rings.specs.declared.circle.Circle.{Circle}
 use Rattle.ep_rings.specs.declared.link.Link.{Link}
-use Rattle.ep_rings.proofs.CircleLemmas.{keys_apart}
+use Rattle.ep_rings.proofs.CircleLemmas.{first_there, keys_apart}
 use Rattle.ep_rings.proofs.OwnerLemmas.{circles_alike, none_of, row_alike}
-use Rattle.ep_rings.proofs.SoundLemmas.{distinct, stands_where}
-use Rattle.ep_rings.proofs.TestLemmas.{test_apart, test_same}
-use Rattle.ep_rings.proofs.ViewLemmas.{kernel_watches}
+use Rattle.ep_rings.proofs.TurnLemmas.{circles_after, rows_after}
+use Rattle.ep_rings.proofs.AmongLemmas.{distinct, filter_apart, stands_where}
 
 none_among : (xs : List ℕ) (k : ℕ) → is_among xs k ≡ false → All (λ x. x ≢ k) xs
 none_among [] k h = λ i d lt. absurd (omega (arith, lt))
 none_among (x ∷ xs) k h = elim (cases_eq k x) [
-  | inl e ↦ absurd (let t = test_same k x e in let no : true ≡ false = rw t at h in cc)
+  | inl e ↦ absurd (let t = same_test k x e in let no : true ≡ false = rw t at h in cc)
   | inr ne ↦ All-cons (λ y. y ≢ k) x xs (λ e. ne (sym e)) (none_among xs k (let t = test_apart k x ne in rw t at h))
 ]
 
 -- reading after a write
 read_set : {X : Type 0} (xs : List X) (o : ℕ) (x d : X) → o < length xs → (i : ℕ) → get_or (set xs o x) i d ≡ (if nat_eq o i then x else get_or xs i d)
 read_set xs o x d lt i = elim (cases_eq o i) [
-  | inl e ↦ ap (λ (j : ℕ). get_or (set xs o x) j d) (sym e) ∙ (get_or-set_same xs o x d lt ∙ sym (ap (λ (b : Bool). cond b x (get_or xs i d)) (test_same o i e)))
+  | inl e ↦ ap (λ (j : ℕ). get_or (set xs o x) j d) (sym e) ∙ (get_or-set_same xs o x d lt ∙ sym (ap (λ (b : Bool). cond b x (get_or xs i d)) (same_test o i e)))
   | inr ne ↦ get_or-set_other xs o i x d (λ e. ne (sym e)) ∙ sym (ap (λ (b : Bool). cond b x (get_or xs i d)) (test_apart o i ne))
 ]
 
@@ -104,7 +104,7 @@ module _ (heads : List (Option Circle)) (links : List Link) where
     key_joined v e links' c lt j =
         let ks = keys_at value o ++ k ∷ [] in
         changed links' o c ks lt j.many (λ i. elim (cases_eq o i) [
-          | inl is ↦ j.rows i ∙ (ap (λ (b : Bool). cond b (row_of links (head_at heads) i ++ k ∷ []) (row_of links (head_at heads) i)) (test_same o i is) ∙ (ap (λ (n : ℕ). row_of links (head_at heads) n ++ k ∷ []) (sym is) ∙ (ap (λ (js : List ℕ). js ++ k ∷ []) (sym (row_read heads links o)) ∙ sym (ap (λ (b : Bool). cond b ks (row_of links (head_at heads) i)) (test_same o i is)))))
+          | inl is ↦ j.rows i ∙ (ap (λ (b : Bool). cond b (row_of links (head_at heads) i ++ k ∷ []) (row_of links (head_at heads) i)) (same_test o i is) ∙ (ap (λ (n : ℕ). row_of links (head_at heads) n ++ k ∷ []) (sym is) ∙ (ap (λ (js : List ℕ). js ++ k ∷ []) (sym (row_read heads links o)) ∙ sym (ap (λ (b : Bool). cond b ks (row_of links (head_at heads) i)) (same_test o i is)))))
           | inr ne ↦ j.rows i ∙ (ap (λ (b : Bool). cond b (row_of links (head_at heads) i ++ k ∷ []) (row_of links (head_at heads) i)) (test_apart o i ne) ∙ sym (ap (λ (b : Bool). cond b ks (row_of links (head_at heads) i)) (test_apart o i ne)))
         ]) ∙ ap (λ (u : PlacedRows). with_key u o k) e
 
@@ -116,9 +116,38 @@ module _ (heads : List (Option Circle)) (links : List Link) where
         let there = (can_leave v e t).there in
         let ks = filter (λ x. not (x == k)) (keys_at value o) in
         changed links' o c ks lt l.many (λ i. elim (cases_eq o i) [
-          | inl is ↦ l.rows i ∙ (ap (λ (n : ℕ). filter (λ x. not (x == k)) (row_of links (head_at heads) n)) (sym is) ∙ (ap (λ (js : List ℕ). filter (λ x. not (x == k)) js) (sym (row_read heads links o)) ∙ sym (ap (λ (b : Bool). cond b ks (row_of links (head_at heads) i)) (test_same o i is))))
-          | inr ne ↦ l.rows i ∙ (kernel_watches (row_of links (head_at heads) i) k k (λ n g. none_of (row_of links (head_at heads)) h.apart o i k ne there n k g) ∙ sym (ap (λ (b : Bool). cond b ks (row_of links (head_at heads) i)) (test_apart o i ne)))
+          | inl is ↦ l.rows i ∙ (ap (λ (n : ℕ). filter (λ x. not (x == k)) (row_of links (head_at heads) n)) (sym is) ∙ (ap (λ (js : List ℕ). filter (λ x. not (x == k)) js) (sym (row_read heads links o)) ∙ sym (ap (λ (b : Bool). cond b ks (row_of links (head_at heads) i)) (same_test o i is))))
+          | inr ne ↦ l.rows i ∙ (filter_apart (row_of links (head_at heads) i) k k (λ n g. none_of (row_of links (head_at heads)) h.apart o i k ne there n k g) ∙ sym (ap (λ (b : Bool). cond b ks (row_of links (head_at heads) i)) (test_apart o i ne)))
         ]) ∙ ap (λ (u : PlacedRows). without_key u o k) e
+
+  -- A row is turned.
+  module _ (h : AreCircles links (head_at heads)) (o : ℕ) (t : Circle) (is : head_at heads o ≡ Some t) where
+    abbrev turn : Option Circle
+    turn = Some (turned (next_of links) t)
+
+    pub owner_begins : o < length heads
+    owner_begins = elim (cases_lt o (length heads)) [ inl l ↦ l | inr g ↦ absurd (let no = sym (get_or_past heads o None g) ∙ is in cc) ]
+
+    pub first_linked : t.first < length links
+    first_linked =
+        let c = subst (λ (c : Option Circle). IsCircle (next_of links) (prev_of links) c (row_of links (head_at heads) o)) is (h.circles o) in
+        All-contains (λ x. x < length links) (row_of links (head_at heads) o) t.first (h.within o) (first_there (next_of links) (prev_of links) t (row_of links (head_at heads) o) c)
+
+    pub sound_turned : AreCircles links (head_at (set heads o turn))
+    sound_turned = sound_changed links o turn owner_begins (circles_after links (whose o) t h is)
+
+    pub row_turned : (v : PlacedRows) → value ≡ v → rows_from (set heads o turn) links ≡ with_turn v o
+    row_turned v e =
+        let ks = rotation_of (keys_at value o) in
+        changed links o turn ks owner_begins refl (λ i. rows_after links (whose o) t h is i ∙ elim (cases_eq o i) [
+          | inl same ↦
+              ap (λ (b : Bool). cond b (rotation_of (row_of links (head_at heads) i)) (row_of links (head_at heads) i)) (same_test o i same)
+              ∙ (ap (λ (n : ℕ). rotation_of (row_of links (head_at heads) n)) (sym same) ∙ (ap rotation_of (sym (row_read heads links o))
+              ∙ sym (ap (λ (b : Bool). cond b ks (row_of links (head_at heads) i)) (same_test o i same))))
+          | inr ne ↦
+              ap (λ (b : Bool). cond b (rotation_of (row_of links (head_at heads) i)) (row_of links (head_at heads) i)) (test_apart o i ne)
+              ∙ sym (ap (λ (b : Bool). cond b ks (row_of links (head_at heads) i)) (test_apart o i ne))
+        ]) ∙ ap (λ (u : PlacedRows). with_turn u o) e
 
   pub are_apart : AreCircles links (head_at heads) → AreApart value
   are_apart h = record {

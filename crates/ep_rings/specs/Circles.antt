@@ -19,6 +19,10 @@ abbrev pub shortened : ℕ → ℕ → Option Circle → Option Circle
 shortened key next None = None
 shortened key next (Some c) = if nat_lt 1 c.len then Some (without key next c) else None
 
+-- the circle from its second key on, with the first one at the end
+abbrev pub turned : (ℕ → ℕ) → Circle → Circle
+turned next c = record { first = next c.first; len = c.len }
+
 -- the keys of a circle, the first one first
 abbrev pub keys_in : (ℕ → ℕ) → Option Circle → List ℕ
 keys_in next None = []

@@ -6,12 +6,12 @@ use Rattle.ep_rings.specs.Links.{next_of}
 use Rattle.ep_rings.specs.declared.link.Link.{Link}
 
 -- the key with this number
-abbrev pub id_at : ℕ → EntryId
-id_at k = record { 0 = k }
+abbrev pub entry_id : ℕ → EntryId
+entry_id k = record { 0 = k }
 
 -- so many keys from one on
 abbrev pub ids_from : List Link → ℕ → ℕ → List EntryId
-ids_from links n k = map id_at (walk (next_of links) n k)
+ids_from links n k = map entry_id (walk (next_of links) n k)
 
 -- so many keys from one on have links
 abbrev pub AreLinked : List Link → ℕ → ℕ → Type 0

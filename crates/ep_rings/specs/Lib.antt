@@ -1,9 +1,4 @@
-pub mod Nodes
 pub mod Ring
-pub mod Rings
-pub mod Represents
-pub mod Growth
-pub mod Walk
 pub mod Links
 pub mod Circles
 pub mod KeyWalk

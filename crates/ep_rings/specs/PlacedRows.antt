@@ -4,7 +4,7 @@ use Rattle.std.specs.Prelude.{length, map, slice_index_or, slice_set, filter}
 use Rattle.ep_base.specs.declared.ids.EntryId.{EntryId}
 use Rattle.ep_machine.specs.Lists.{are_distinct, is_among}
 use Rattle.ep_rings.specs.Circles.{keys_in}
-use Rattle.ep_rings.specs.KeyWalk.{id_at}
+use Rattle.ep_rings.specs.KeyWalk.{entry_id}
 use Rattle.ep_rings.specs.Links.{next_of}
 use Rattle.ep_rings.specs.declared.circle.Circle.{Circle}
 use Rattle.ep_rings.specs.declared.link.Link.{Link}
@@ -24,7 +24,7 @@ keys_at v i = slice_index_or v.rows i []
 
 -- the same keys, as registrations have them
 abbrev pub ids_at : PlacedRows → ℕ → List EntryId
-ids_at v i = map id_at (keys_at v i)
+ids_at v i = map entry_id (keys_at v i)
 
 -- the owner has these keys
 abbrev pub with_row : PlacedRows → ℕ → List ℕ → PlacedRows
@@ -38,10 +38,19 @@ with_key v i k = with_row v i (keys_at v i ++ k ∷ [])
 abbrev pub without_key : PlacedRows → ℕ → ℕ → PlacedRows
 without_key v i k = with_row v i (filter (λ x. not (x == k)) (keys_at v i))
 
+-- the first key at the end
+abbrev pub rotation_of : List ℕ → List ℕ
+rotation_of [] = []
+rotation_of (k ∷ ks) = ks ++ k ∷ []
+
+-- the owner's row, turned so
+abbrev pub with_turn : PlacedRows → ℕ → PlacedRows
+with_turn v i = with_row v i (rotation_of (keys_at v i))
+
 -- the first of the keys, if there is one
 abbrev pub first_in : List ℕ → Option EntryId
 first_in [] = None
-first_in (k ∷ ks) = Some (id_at k)
+first_in (k ∷ ks) = Some (entry_id k)
 
 -- each row is the same, and no place is lost
 pub record KeepsRows (old new : PlacedRows) : Type 0 where

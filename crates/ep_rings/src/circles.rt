@@ -1,13 +1,13 @@
 //! Circles of keys, one for each owner that has some.
 ghost use Rattle.std.specs.Prelude.{◌≡◌, ◌<◌, ◌≤◌, ℕ, [], All, IfSome, OnOk, Option, Some, if◌then◌else◌, length, map, nat_lt, not, ◌==◌};
-ghost use Rattle.ep_rings.specs.Circles.{AreCircles, CanJoin, CanLeave, Joins, Leaves, Whose, keys_in, lengthened, own_head, row_of, shortened};
-ghost use Rattle.ep_rings.specs.KeyWalk.{id_at};
+ghost use Rattle.ep_rings.specs.Circles.{AreCircles, CanJoin, CanLeave, Joins, Leaves, Whose, keys_in, lengthened, own_head, row_of, shortened, turned};
+ghost use Rattle.ep_rings.specs.KeyWalk.{entry_id};
 ghost use Rattle.ep_rings.specs.Links.{next_of, prev_of};
 ghost use Rattle.ep_rings.specs.declared.circle.Circle.{Circle as Head};
 
 use crate::circle::{Circle, longer};
+use crate::keys::Keys;
 use crate::link::{Link, join};
-use crate::walk::Walk;
 use std::alloc::{AllocError, Allocator, Global};
 use std::marker::Model;
 
@@ -127,14 +127,26 @@ impl<A: Allocator> Circles<A> {
         Some(circle.without(key, next))
     }
 
+    /// The circle from its second key on, with its first one at the end. No link changes. The caller is to keep it as
+    /// the owner's.
+    pub fn turned(&self, circle: Circle) -> Circle
+        requires { circle.first < length self.now }
+        ensures { result ≡ turned (next_of self.now) circle }
+    {
+        Circle {
+            first: self.links[circle.first].next,
+            len: circle.len,
+        }
+    }
+
     /// The keys of an owner's circle, in order. There are none if the owner has no circle.
-    pub fn keys(&self, circle: Option<Circle>) -> Walk<'_>
+    pub fn keys(&self, circle: Option<Circle>) -> Keys<'_>
         requires { All (λ k. k < length self.now) (keys_in (next_of self.now) circle) }
-        ensures { result ≡ map id_at (keys_in (next_of self.now) circle) }
+        ensures { result ≡ map entry_id (keys_in (next_of self.now) circle) }
     {
         let none = Circle { first: 0, len: 0 };
         let circle = circle.unwrap_or(none);
-        Walk {
+        Keys {
             links: &self.links,
             at: circle.first,
             left: circle.len,

@@ -3,11 +3,11 @@ ghost use Rattle.std.specs.Map.Iter.{ShowsInOrder};
 ghost use Rattle.std.specs.Prelude.{◌≡◌, ◌<◌, ◌≤◌, ℕ, OnOk, false, length, true};
 ghost use Rattle.ep_base.specs.declared.ids.EntryId.{EntryId};
 ghost use Rattle.ep_machine.specs.Lists.{is_among};
-ghost use Rattle.ep_rings.specs.PlacedRows.{AreApart, KeepsRows, first_in, head_at, ids_at, keys_at, no_rows, with_key, without_key};
+ghost use Rattle.ep_rings.specs.PlacedRows.{AreApart, KeepsRows, first_in, head_at, ids_at, keys_at, no_rows, with_key, with_turn, without_key};
 
 use crate::circle::Circle;
 use crate::circles::Circles;
-use crate::walk::Walk;
+use crate::keys::Keys;
 use ep_base::{DescId, EntryId};
 use std::alloc::{AllocError, Allocator, Global};
 use std::marker::Model;
@@ -111,6 +111,15 @@ impl<A: Allocator> PlacedRows<A> {
         }
     }
 
+    /// Moves the key at the front of an owner's row to its end. A row with no key stays as it is.
+    pub fn rotate(&mut self, owner: DescId)
+        ensures { self.new ≡ with_turn self.old owner.0 }
+    {
+        if let Some(circle) = head_in(&self.heads, owner.0) {
+            self.heads[owner.0] = Some(self.circles.turned(circle));
+        }
+    }
+
     /// How many keys an owner has; none without a place.
     pub fn len(&self, owner: DescId) -> usize
         ensures { result ≡ length (keys_at self.now owner.0) }
@@ -132,7 +141,7 @@ impl<A: Allocator> PlacedRows<A> {
     }
 
     /// The keys of an owner, in order. There are none if the owner has no place.
-    pub fn keys(&self, owner: DescId) -> Walk<'_>
+    pub fn keys(&self, owner: DescId) -> Keys<'_>
         ensures exact { result ≡ ids_at self.now owner.0 }
         ensures runs { ShowsInOrder (λ (id : EntryId). id) }
     {

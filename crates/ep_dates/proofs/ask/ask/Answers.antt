@@ -1,4 +1,4 @@
-use Rattle.std.proofs.Common.{◌≡◌, ◌==◌, ◌∙◌, Bool, IsSome, None, Some, ap, arith, false, nat_lt, not, option_copied, subst, sym, true, ℕ}
+use Rattle.std.proofs.Common.{◌≡◌, ◌==◌, ◌∙◌, Bool, IsSome, None, Some, ap, arith, false, nat_lt, not, option_copied, subst, sym, true}
 use Rattle.std.proofs.lemmas.Bool.Decides.{nat_tests}
 use Rattle.ep_calls.proofs.EntryLemmas.{holds_under}
 use Rattle.ep_calls.specs.Parts.{Parts}
@@ -22,7 +22,7 @@ returns-then-is_dated-question c =
     let x = c.in-Some.entry.now in
     let at : entry_under p.interest c.args.id ≡ Some x = subst (λ (q : Parts). entry_under q.interest c.args.id ≡ Some x) c.parts.view_is (sym c.get.ensures ∙ ap option_copied c.in-Some.is) in
     asked_same p (subst (λ (q : Parts). IsSound q.interest) c.parts.view_is c.known-2.ensures) c.args.question.comes c.args.question.event c.args.id c.args.dates.now c.requires.kept x at
-    (ap (λ (k : ℕ). nat_lt 0 k) (sym c.since.ensures) ∙ (sym c.is_event-is_dated.ensures ∙ same_truth _ _ c.if-is_dated-question.true))
+    ((sym c.is_dated.ensures ∙ same_truth _ _ c.if-is_dated-question.true))
 
 pub shows-requires : goal.shows-requires
 shows-requires c =
@@ -46,7 +46,7 @@ returns-then-question c =
     let at : entry_under p.interest c.args.id ≡ Some x = subst (λ (q : Parts). entry_under q.interest c.args.id ≡ Some x) c.parts.view_is (sym c.get.ensures ∙ ap option_copied c.in-Some.is) in
     let shown = sym c.shows.ensures in
     let comes = c.if-question.true in
-    let was : is_dated c.args.dates.now x ≡ false = ap (λ (k : ℕ). nat_lt 0 k) (sym c.since.ensures) ∙ (sym c.is_event-is_dated.ensures ∙ other_truth _ _ c.if-is_dated-question.false ∙ ap not comes) in
+    let was : is_dated c.args.dates.now x ≡ false = (sym c.is_dated.ensures ∙ other_truth _ _ c.if-is_dated-question.false ∙ ap not comes) in
     let up : nat_lt 0 c.args.question.event ≡ true = let positive = c.requires.event in grind (arith, nat_tests, positive) in
     subst (λ (w : Bool). Asks w c.args.question.event p (λ k. k == c.args.id.0) c.args.dates.now c.begin.new.self) (sym comes)
     (subst (Asks true c.args.question.event p (λ k. k == c.args.id.0) c.args.dates.now) (sym c.begin.ensures)
@@ -60,7 +60,7 @@ returns-else-question c =
     let at : entry_under p.interest c.args.id ≡ Some x = subst (λ (q : Parts). entry_under q.interest c.args.id ≡ Some x) c.parts.view_is (sym c.get.ensures ∙ ap option_copied c.in-Some.is) in
     let shown = sym c.shows.ensures in
     let goes = c.if-question.false in
-    let was : is_dated c.args.dates.now x ≡ true = ap (λ (k : ℕ). nat_lt 0 k) (sym c.since.ensures) ∙ (sym c.is_event-is_dated.ensures ∙ other_truth _ _ c.if-is_dated-question.false ∙ ap not goes) in
+    let was : is_dated c.args.dates.now x ≡ true = (sym c.is_dated.ensures ∙ other_truth _ _ c.if-is_dated-question.false ∙ ap not goes) in
     let up : nat_lt 0 c.args.question.event ≡ true = let positive = c.requires.event in grind (arith, nat_tests, positive) in
     subst (λ (w : Bool). Asks w c.args.question.event p (λ k. k == c.args.id.0) c.args.dates.now c.end.new.self) (sym goes)
     (subst (Asks false c.args.question.event p (λ k. k == c.args.id.0) c.args.dates.now) (sym c.end.ensures)

@@ -1,4 +1,4 @@
-use Rattle.std.proofs.Common.{◌≡◌, ◌==◌, ◌∙◌, Bool, None, Some, ap, arith, false, nat_lt, not, option_copied, subst, sym, true, ℕ}
+use Rattle.std.proofs.Common.{◌≡◌, ◌==◌, ◌∙◌, Bool, None, Some, ap, arith, false, nat_lt, not, option_copied, subst, sym, true}
 use Rattle.std.proofs.lemmas.Bool.{not-false, not-true}
 use Rattle.std.proofs.lemmas.Bool.Decides.{nat_tests}
 use Rattle.ep_calls.specs.Parts.{Parts}
@@ -21,7 +21,7 @@ returns-then-is_dated-question c =
     let x = c.in-Some.entry.now in
     let at : entry_under p.interest c.args.id ≡ Some x = subst (λ (q : Parts). entry_under q.interest c.args.id ≡ Some x) c.parts.view_is (sym c.get.ensures ∙ ap option_copied c.in-Some.is) in
     asked_same p (subst (λ (q : Parts). IsSound q.interest) c.parts.view_is c.known.ensures) c.args.question.comes c.args.question.event c.args.id c.args.dates.now c.requires.kept x at
-    (ap (λ (k : ℕ). nat_lt 0 k) (sym c.since.ensures) ∙ (sym c.is_event-is_dated.ensures ∙ same_truth _ _ c.if-is_dated-question.true))
+    ((sym c.is_dated.ensures ∙ same_truth _ _ c.if-is_dated-question.true))
 
 pub returns-then-not-question : goal.returns-then-not-question
 returns-then-not-question c =
@@ -29,7 +29,7 @@ returns-then-not-question c =
     let x = c.in-Some.entry.now in
     let at : entry_under p.interest c.args.id ≡ Some x = subst (λ (q : Parts). entry_under q.interest c.args.id ≡ Some x) c.parts.view_is (sym c.get.ensures ∙ ap option_copied c.in-Some.is) in
     let goes : c.args.question.comes ≡ false = not-true c.args.question.comes c.if-not-question.true in
-    let was : is_dated c.args.dates.now x ≡ true = ap (λ (k : ℕ). nat_lt 0 k) (sym c.since.ensures) ∙ (sym c.is_event-is_dated.ensures ∙ other_truth _ _ c.if-is_dated-question.false ∙ ap not goes) in
+    let was : is_dated c.args.dates.now x ≡ true = (sym c.is_dated.ensures ∙ other_truth _ _ c.if-is_dated-question.false ∙ ap not goes) in
     let up : nat_lt 0 c.args.question.event ≡ true = let positive = c.requires.event in grind (arith, nat_tests, positive) in
     let on = c.requires.there x at in
     let idle : shows_by (shows_over p) c.args.dates.now x ≡ false = ap (λ (b : Bool). shows_over p b x) (on.1 ∙ goes) ∙ idle_shows p x on.0 in
@@ -44,7 +44,7 @@ returns-then-shows_in c =
     let x = c.in-Some.entry.now in
     let at : entry_under p.interest c.args.id ≡ Some x = subst (λ (q : Parts). entry_under q.interest c.args.id ≡ Some x) c.parts.view_is (sym c.get.ensures ∙ ap option_copied c.in-Some.is) in
     let comes : c.args.question.comes ≡ true = not-false c.args.question.comes c.if-not-question.false in
-    let was : is_dated c.args.dates.now x ≡ false = ap (λ (k : ℕ). nat_lt 0 k) (sym c.since.ensures) ∙ (sym c.is_event-is_dated.ensures ∙ other_truth _ _ c.if-is_dated-question.false ∙ ap not comes) in
+    let was : is_dated c.args.dates.now x ≡ false = (sym c.is_dated.ensures ∙ other_truth _ _ c.if-is_dated-question.false ∙ ap not comes) in
     let up : nat_lt 0 c.args.question.event ≡ true = let positive = c.requires.event in grind (arith, nat_tests, positive) in
     let on = c.requires.there x at in
     let shown : shows_by (shows_over p) c.args.dates.now x ≡ true = ap (λ (b : Bool). shows_over p b x) (on.1 ∙ comes) ∙ (ready_shows p x on.0 ∙ (sym c.shows_in.ensures ∙ c.if-shows_in.true)) in

@@ -11,7 +11,7 @@ use Rattle.ep_dates.proofs.TurnLemmas.{turned_still, turns_none}
 use Rattle.ep_dates.proofs.TurnedLemmas.{instances_still}
 use Rattle.ep_dates.specs.Ask.{shows_over}
 use Rattle.ep_machine.specs.Lists.{is_among}
-use Rattle.ep_ready.specs.Walk.{Walk}
+use Rattle.ep_walk.specs.Walk.{Walk}
 use Rattle.ep_dates.proofs.ask.ask_turned.Goals as goal
 
 -- no instance watches another

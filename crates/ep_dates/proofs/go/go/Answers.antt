@@ -1,5 +1,5 @@
 use Rattle.std.proofs.Common.{◌≡◌, ◌||◌, ◌∙◌, Bool, Some, [], ap, false, refl, subst, sym, true, ℕ}
-use Rattle.std.proofs.lemmas.Bool.{false≢true}
+use Rattle.std.proofs.lemmas.Bool.{or_parts}
 use Rattle.ep_base.specs.declared.ids.EntryId.{EntryId}
 use Rattle.ep_dates.proofs.ComeLemmas.{both_stages, whole_way}
 use Rattle.ep_dates.proofs.GoLemmas.{all_settled, none_above}
@@ -34,10 +34,6 @@ stages c =
 pub returns-clause-goes : goal.returns-clause-goes
 returns-clause-goes c =
     whole_way false c.args.event c.args.parts.now (asked c) (forgot c.args.dates.now) c.forget.new.self c.ask_above.new.dates c.ask_turned.new.dates c.forget.ensures (stages c) c.ask_turned.ensures.asks
-
-or_parts : (a b : Bool) → (a || b) ≡ false → (a ≡ false) × (b ≡ false)
-or_parts true b h = absurd (false≢true (sym h))
-or_parts false b h = (refl, h)
 
 -- what may go was asked, or is on an instance that is noted
 spared : (c : goal.After-ask_turned) → (id : EntryId) (x : Entry) → entry_under c.args.parts.now.interest id ≡ Some x → asked c id.0 ≡ false → is_among c.ask_above.new.dates.turned.reached x.desc.0 ≡ false

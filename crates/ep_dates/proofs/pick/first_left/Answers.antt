@@ -3,7 +3,7 @@ use Rattle.std.proofs.lemmas.Bool.{false≢true}
 use Rattle.ep_base.specs.declared.ids.EntryId.{EntryId}
 use Rattle.ep_dates.proofs.PickLemmas.{all_flagged, first_is, flagged_next}
 use Rattle.ep_dates.specs.Dates.{Dates}
-use Rattle.ep_rings.specs.KeyWalk.{id_at as key_of}
+use Rattle.ep_rings.specs.KeyWalk.{entry_id as key_of}
 use Rattle.ep_rings.specs.PlacedRows.{keys_at}
 use Rattle.ep_dates.proofs.pick.first_left.Goals as goal
 

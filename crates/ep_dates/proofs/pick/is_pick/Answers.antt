@@ -1,7 +1,7 @@
 use Rattle.std.proofs.Common.{◌∙◌, length, min, sym}
 use Rattle.std.proofs.lemmas.Bool.{false≢true}
+use Rattle.ep_facts.proofs.NatFacts.{same_test}
 use Rattle.ep_dates.proofs.PickLemmas.{pick_late}
-use Rattle.ep_law.proofs.TestLemmas.{same_test}
 use Rattle.ep_rings.specs.PlacedRows.{keys_at}
 use Rattle.ep_dates.proofs.pick.is_pick.Goals.{in-Some+then-has_as_many, in-Some+else-has_as_many, in-None}
 use Rattle.ep_dates.proofs.pick.is_pick.Goals as goal

@@ -16,8 +16,7 @@ returns c =
     let id = c.id-id.result in
     let at : entry_under p.interest id ≡ Some x = subst (λ (q : Parts). entry_under q.interest id ≡ Some x) c.parts.view_is (sym c.get.ensures ∙ ap option_copied c.in-Some.is) in
     let number : x.number ≡ c.args.number = sym (ap (λ (e : Entry). e.number) c.entry.view_is) ∙ (c.if-entry-number.false ∙ c.number.view_is) in
-    let some : nat_lt 0 c.since.result ≡ true = let not_none = c.if-since-eq0.false in grind (arith, nat_tests, not_none) in
-    let dated : is_dated d x ≡ true = ap (λ (k : ℕ). nat_lt 0 (event_at d.since k)) number ∙ (ap (λ (k : ℕ). nat_lt 0 k) (sym c.since.ensures) ∙ some) in
+    let dated : is_dated d x ≡ true = ap (λ (k : ℕ). nat_lt 0 (event_at d.since k)) number ∙ (sym c.is_dated.ensures ∙ c.if-not-is_dated.false) in
     let key : id_at d.ids x.number ≡ id = ap (id_at d.ids) number ∙ sym c.id-id.ensures in
     let up : nat_lt 0 c.args.event ≡ true = let positive = c.requires.event in grind (arith, nat_tests, positive) in
     subst (Renews c.args.event p.interest (c.args.number ∷ []) d) (sym c.renew.ensures)
