@@ -4,14 +4,16 @@ use Rattle.std.specs.List.{list_any}
 use Rattle.std.proofs.lemmas.Bool.{cases_Bool, cases_lt, false≢true}
 use Rattle.std.proofs.lemmas.Bool.Decides.{eqb_tells}
 use Rattle.std.proofs.lemmas.List.{get_or_past, get_or-set_same}
+use Rattle.ep_facts.proofs.NatFacts.{same_test}
+use Rattle.ep_facts.proofs.BoolFacts.{or_left, or_right}
+use Rattle.ep_facts.proofs.ListFacts.{head_same, tail_same}
+use Rattle.ep_law.proofs.ListLemmas.{any_has}
 use Rattle.ep_base.specs.declared.ids.DescId.{DescId}
 use Rattle.ep_calls.specs.Burial.{Burial}
 use Rattle.ep_due.specs.DueMap.{Moments, moment_of}
 use Rattle.ep_interest.specs.Registrations.{Registrations}
 use Rattle.ep_law.proofs.DeathLemmas.{get_other}
 use Rattle.ep_law.proofs.RaiseLemmas.{live_member, lived_before}
-use Rattle.ep_law.proofs.TestLemmas.{or_left, or_right, same_test}
-use Rattle.ep_law.specs.Laws.{Member}
 use Rattle.ep_machine.specs.Deaths.{die, die_all, kept_object}
 use Rattle.ep_machine.specs.Files.{Files, Place, is_live, live, object_at, place_of}
 use Rattle.ep_machine.specs.Lists.{is_among}
@@ -24,13 +26,6 @@ use Rattle.ep_object.proofs.TimerLemmas.{close_keeps_timer}
 use Rattle.ep_object.specs.Next.{timer_of}
 use Rattle.ep_table.specs.Live.{key_of}
 use Rattle.ep_table.specs.Value.{Seen, Sound, number_under}
-
-member_any : {X : Type 0} (f : X → Bool) (xs : List X) (x : X) → Member x xs → f x ≡ true → list_any f xs ≡ true
-member_any f [] x m h = absurd m
-member_any f (y ∷ ys) x m h = elim m [
-  | inl e ↦ or_left (f y) (list_any f ys) (ap f (sym e) ∙ h)
-  | inr rest ↦ or_right (f y) (list_any f ys) (member_any f ys x rest h)
-]
 
 abbrev timer_there : Files → ℕ → Option Timer
 timer_there f k = timer_of (unwrap_or (slice_index_or f.objects k None) plain)
@@ -50,7 +45,7 @@ module _ (f : Files) (raised : List (ℕ × ℕ)) (x : ℕ × Place) where
   g = (die (f, raised) x).0
 
   kept : (d : ℕ) (p : Place) → place_of g d ≡ Some p → p.object ≡ k → kept_object rest k closed ≡ Some closed
-  kept d p here at = ap (λ (b : Bool). if b then Some closed else None) (member_any (λ (y : ℕ × Place). y.1.object == k) (live rest) (d, p) (live_member rest d p here) (same_test p.object k at))
+  kept d p here at = ap (λ (b : Bool). if b then Some closed else None) (any_has (λ (y : ℕ × Place). y.1.object == k) (live rest) (d, p) (live_member rest d p here) (same_test p.object k at))
 
   same_there : (d : ℕ) (p : Place) → place_of g d ≡ Some p → p.object ≡ k → timer_there g k ≡ timer_there f k
   same_there d p here at = elim (cases_lt k (length f.objects)) [
@@ -116,11 +111,6 @@ lives_on f raised (x ∷ xs) d p e out =
     ]
 
 -- Which keys they are.
-head_same : {X : Type 0} (x y : X) (xs ys : List X) → x ∷ xs ≡ y ∷ ys → x ≡ y
-head_same x y xs ys e = cc
-
-tail_same : {X : Type 0} (x y : X) (xs ys : List X) → x ∷ xs ≡ y ∷ ys → xs ≡ ys
-tail_same x y xs ys e = cc
 
 abbrev is_one_of : List DescId → ℕ → Bool
 is_one_of descs k = list_any (λ desc. nat_eq desc.0 k) descs

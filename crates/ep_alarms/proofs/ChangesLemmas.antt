@@ -5,6 +5,7 @@ use Rattle.std.specs.List.{list_any}
 use Rattle.std.proofs.lemmas.Bool.{cases_lt, false≢true, leb-false}
 use Rattle.std.proofs.lemmas.List.{get_or-set_same, get_or_past}
 use Rattle.std.proofs.lemmas.Option.{none-some}
+use Rattle.ep_facts.proofs.OptionFacts.{value_of}
 use Rattle.ep_base.specs.declared.call.Call.TheVariants.{EpollCtl, EpollWait, TimerFd}
 use Rattle.ep_base.specs.declared.call.Event.{Event}
 use Rattle.ep_base.specs.declared.call.Event.TheVariants.{Call as CallOf, Resume, Tick}
@@ -91,10 +92,6 @@ past_one false e rest h = (refl, h)
 pub is_none_of : {X : Type 0} (o : Option X) → ((x : X) → o ≡ Some x → ⊥) → o ≡ None
 is_none_of None not_some = refl
 is_none_of (Some x) not_some = absurd (not_some x refl)
-
-there_is : {X : Type 0} (o : Option X) → IsSome o → (x : X) × (o ≡ Some x)
-there_is None h = absurd (false≢true h)
-there_is (Some x) h = (x, refl)
 
 some_is : {X : Type 0} (o : Option X) → is_none o ≡ false → (x : X) × (o ≡ Some x)
 some_is None h = absurd (false≢true (sym h))
@@ -334,7 +331,7 @@ module _ (event : Event) (found : Option DescId) (outcome : Outcome) (has_room :
 
   -- What was found.
   found_number : (desc : DescId) → found ≡ Some desc → (d : ℕ) × (number_under p.tables desc ≡ Some d)
-  found_number desc is = there_is (number_under p.tables desc) (subst (λ (o : Option DescId). IfSome o (λ x. IsSome (number_under p.tables x))) is were.live)
+  found_number desc is = value_of (number_under p.tables desc) (subst (λ (o : Option DescId). IfSome o (λ x. IsSome (number_under p.tables x))) is were.live)
 
   pub found_lives : (desc : DescId) → found ≡ Some desc → IsSome (number_under q.tables desc)
   found_lives desc is =

@@ -1,8 +1,8 @@
 -- Timers taken out one after another.
-use Rattle.std.proofs.Common.{◌≡◌, ◌∙◌, ◌||◌, ℕ, Bool, true, false, List, ◌∷◌, None, Option, ap, cond, nat_eq, refl}
+use Rattle.std.proofs.Common.{◌≡◌, ℕ, Bool, List, None, cond, nat_eq}
 use Rattle.std.specs.List.{list_any}
 use Rattle.ep_base.specs.declared.ids.DescId.{DescId}
-use Rattle.ep_due.specs.DueMap.{Moments, SetsMoment, moment_of}
+use Rattle.ep_due.specs.DueMap.{Moments, moment_of}
 
 abbrev pub is_one_of : List DescId → ℕ → Bool
 is_one_of descs k = list_any (λ desc. nat_eq desc.0 k) descs

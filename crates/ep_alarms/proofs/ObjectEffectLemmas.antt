@@ -1,5 +1,6 @@
 -- Which timers a call on an object leaves as they were.
 use Rattle.std.proofs.Common.{◌≡◌, ◌≢◌, ◌∙◌, ℕ, false, true, None, Option, Some, ap, is_some, refl, slice_index_or, sym, unwrap_or}
+use Rattle.ep_facts.proofs.OptionFacts.{value_of}
 use Rattle.ep_base.specs.declared.object.End.{End}
 use Rattle.ep_law.proofs.EndLemmas.{set_object}
 use Rattle.ep_law.specs.Laws.{HaveOwnEnds}
@@ -22,10 +23,6 @@ effect_none x e now asked h = none_is _ (call_keeps_timer x e now asked ∙ ap (
 
 abbrev there : Files → ℕ → Object
 there f k = unwrap_or (slice_index_or f.objects k None) plain
-
-a_place : (o : Option Place) → is_some o ≡ true → (p : Place) × (o ≡ Some p)
-a_place None h = absurd cc
-a_place (Some p) h = (p, refl)
 
 same_place : (p q : Place) → p.object ≡ q.object → p.side ≡ q.side → p ≡ q
 same_place p q a b = λ i. record { object = a i; side = b i }
@@ -68,7 +65,7 @@ module _ (f : Files) (number now : ℕ) (asked : ObjectCall) (own : HaveOwnEnds 
 -- a call on an object changes no other timer than that of its description
 pub object_calls_leave : (f : Files) (number now : ℕ) (asked : ObjectCall) → HaveOwnEnds f → is_live f number ≡ true
     → (d : ℕ) → d ≢ number → timer_in (affected f number (object_effect (content_of f number) (side_of f number) now asked)) d ≡ timer_in f d
-object_calls_leave f number now asked own lives d ne = let p = a_place (place_of f number) lives in other_stays f number now asked own p.0 p.1 d ne
+object_calls_leave f number now asked own lives d ne = let p = value_of (place_of f number) lives in other_stays f number now asked own p.0 p.1 d ne
 
 -- the description of the call is a timer's where it was
 pub own_kept : (f : Files) (number now : ℕ) (asked : ObjectCall) → is_some (timer_in (affected f number (object_effect (content_of f number) (side_of f number) now asked)) number) ≡ is_some (timer_in f number)

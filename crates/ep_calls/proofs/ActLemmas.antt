@@ -2,6 +2,7 @@
 use Rattle.std.proofs.Common.{◌≡◌, ◌∙◌, ◌+◌, ℕ, Bool, List, [], ◌∷◌, None, Option, Some, true, false, ap, is_none, is_some, nat_lt, refl, subst, sym}
 use Rattle.std.specs.Prelude.{MatchOption}
 use Rattle.std.specs.List.{list_any}
+use Rattle.ep_facts.proofs.OptionFacts.{some_not_none}
 use Rattle.ep_base.specs.declared.answer.Answer.TheVariants.{Done, Refused}
 use Rattle.ep_base.specs.declared.call.Call.{Call}
 use Rattle.ep_base.specs.declared.call.Event.{Event}
@@ -29,10 +30,6 @@ use Rattle.ep_calls.specs.declared.raising.Raising.{Raising}
 use Rattle.ep_calls.specs.declared.raising.Raising.TheVariants.{Nowhere}
 use Rattle.ep_calls.proofs.OutcomeLemmas.{goes_past, goes_refused, goes_told, raises_past, raises_refused, second_holds}
 use Rattle.ep_calls.proofs.RegistrationLemmas.{caller_waits}
-
-some_not_none : {X : Type 0} (o : Option X) → is_some o ≡ true → is_none o ≡ false
-some_not_none None h = sym h
-some_not_none (Some x) h = refl
 
 -- what holds of each state need not be asked
 pub does_all : (Also : State → Type 0) (n : ℕ) (tests : State → List (Bool × Errno)) (changed : State → List ℕ → Option Change) (outcome : Outcome) (old new : Parts)

@@ -3,6 +3,7 @@ use Rattle.std.proofs.Common.{◌≡◌, ◌∙◌, ◌==◌, ◌&&◌, ◌||◌
 use Rattle.std.specs.List.{AllByRecursion, list_any}
 use Rattle.std.proofs.lemmas.Bool.{false≢true}
 use Rattle.std.proofs.lemmas.List.Elements.{All-head, All-tail}
+use Rattle.ep_facts.proofs.NatFacts.{same_nat}
 use Rattle.ep_base.specs.declared.ids.Fd.{Fd}
 use Rattle.ep_interest.specs.Registrations.{Registrations, has_key, is_other}
 use Rattle.ep_interest.specs.declared.entry.Entry.{Entry}
@@ -13,7 +14,6 @@ use Rattle.ep_machine.specs.Spread.{raised_of}
 use Rattle.ep_machine.specs.State.{State, Waiter, Watch}
 use Rattle.ep_machine.specs.Watches.{has_key as has_numbers, looked_at, number_in}
 use Rattle.ep_view.proofs.KernelViewLemmas.{kept_filter, readiness as machine_readiness, reportable_kept}
-use Rattle.ep_law.proofs.TestLemmas.{same_nat}
 use Rattle.ep_calls.specs.Control.{raising_of_ctl}
 use Rattle.ep_calls.specs.Raising.{raised_bits}
 use Rattle.ep_calls.specs.Readiness.{entry_shows, readiness}

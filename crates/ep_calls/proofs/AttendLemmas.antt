@@ -2,6 +2,7 @@
 use Rattle.std.proofs.Common.{◌≡◌, ◌∙◌, ◌==◌, ℕ, Bool, true, false, IsSome, None, Option, Some, ap, refl, slice_index_or, subst, sym, unwrap_or}
 use Rattle.std.specs.Int.{bit_at}
 use Rattle.std.proofs.lemmas.Bool.{false≢true}
+use Rattle.ep_facts.proofs.NatFacts.{from_test}
 use Rattle.ep_base.specs.declared.ids.DescId.{DescId}
 use Rattle.ep_base.specs.declared.object.End.{End}
 use Rattle.ep_base.specs.declared.object.End.TheVariants.{First, Second}
@@ -13,7 +14,6 @@ use Rattle.ep_calls.specs.declared.raising.Raising.{Raising}
 use Rattle.ep_calls.specs.declared.raising.Raising.TheVariants.{Clock, Instance, Nowhere, Object as AtObject}
 use Rattle.ep_law.proofs.NarrowLemmas.{has_in}
 use Rattle.ep_object.proofs.BitLemmas.{no_bit}
-use Rattle.ep_law.proofs.TestLemmas.{from_test}
 use Rattle.ep_machine.specs.Bits.{IN, at_end, has_bit, nothing, when}
 use Rattle.ep_machine.specs.Files.{Place, object_at, object_number, object_of, place_of}
 use Rattle.ep_machine.specs.Objects.{Object, advance, instance, is_instance, plain}

@@ -5,6 +5,9 @@ use Rattle.std.proofs.lemmas.Bool.Decides.{nat_tests}
 use Rattle.std.proofs.lemmas.List.{map-append}
 use Rattle.std.proofs.lemmas.Option.{none-some}
 use Rattle.std.proofs.lemmas.List.Elements.{All-cons, All-head, All-nil, All-tail}
+use Rattle.std.proofs.Math.Bool.{and-false, or-false}
+use Rattle.ep_facts.proofs.NatFacts.{same_nat as same}
+use Rattle.ep_facts.proofs.BoolFacts.{or_assoc}
 use Rattle.ep_base.specs.declared.ids.DescId.{DescId}
 use Rattle.ep_base.specs.declared.mask.Mask.{Mask}
 use Rattle.ep_base.specs.declared.object.End.{End}
@@ -53,14 +56,8 @@ placed_more s [] x h is = (is, tt)
 placed_more s (y ∷ ys) x h is = (h.0, placed_more s ys x h.1 is)
 
 among_more : (xs : List (ℕ × Place)) (x : ℕ × Place) (d : ℕ) → is_among (numbers (xs ++ x ∷ [])) d ≡ (is_among (numbers xs) d || (d == x.0))
-among_more [] x d = or_false (d == x.0) where
-  or_false : (b : Bool) → (b || false) ≡ b
-  or_false true = refl
-  or_false false = refl
-among_more (y ∷ ys) x d = ap (λ (b : Bool). (d == y.0) || b) (among_more ys x d) ∙ or_assoc (d == y.0) (is_among (numbers ys) d) (d == x.0) where
-  or_assoc : (a b c : Bool) → (a || (b || c)) ≡ ((a || b) || c)
-  or_assoc true b c = refl
-  or_assoc false b c = refl
+among_more [] x d = or-false (d == x.0)
+among_more (y ∷ ys) x d = ap (λ (b : Bool). (d == y.0) || b) (among_more ys x d) ∙ or_assoc (d == y.0) (is_among (numbers ys) d) (d == x.0)
 
 not_both : (a b c d : Bool) → (not (a || b) && not (c || d)) ≡ ((not a && not c) && (not b && not d))
 not_both true b c d = refl
@@ -98,9 +95,7 @@ module _ (v w : Seen) (dead : Dead) (takes : Takes v w dead) (sound : Sound v) w
 
   get_other : (xs : List (Option ℕ)) (k j : ℕ) → (j == k) ≡ false → get_or (set xs k None) j None ≡ get_or xs j None
   get_other [] k j h = refl
-  get_other (x ∷ xs) zero zero h = absurd (false≢true (sym h ∙ same 0)) where
-    same : (n : ℕ) → (n == n) ≡ true
-    same n = grind (arith, nat_tests)
+  get_other (x ∷ xs) zero zero h = absurd (false≢true (sym h ∙ same 0))
   get_other (x ∷ xs) zero (suc j) h = refl
   get_other (x ∷ xs) (suc k) zero h = refl
   get_other (x ∷ xs) (suc k) (suc j) h = get_other xs k j (down j k h) where
@@ -171,14 +166,9 @@ module _ (v w : Seen) (dead : Dead) (takes : Takes v w dead) (sound : Sound v) w
         | inr gone ↦ subst (λ (b : Bool). All (IsLinked w.keys) (cond b (x ∷ filter (is_apart_from dead.desc) xs) (filter (is_apart_from dead.desc) xs))) (sym gone) rest
       ]
 
--- what is raised nowhere is noted nowhere
-never : (p : Bool) → (p && false) ≡ false
-never true = refl
-never false = refl
-
 fresh_none : (n : ℕ) (ws : List KernelWatch) → map (freshened n []) ws ≡ ws
 fresh_none n [] = refl
-fresh_none n (w ∷ ws) = λ i. stirred n (zero_brings w.mask i) ((ap (λ (b : Bool). w.armed && b) (zero_asked w.mask) ∙ never w.armed) i) w ∷ fresh_none n ws i
+fresh_none n (w ∷ ws) = λ i. stirred n (zero_brings w.mask i) ((ap (λ (b : Bool). w.armed && b) (zero_asked w.mask) ∙ and-false w.armed) i) w ∷ fresh_none n ws i
 
 -- what goes has nothing to do with what is noted
 fresh_leaves : (n d : ℕ) (rs : List (ℕ × ℕ)) (ws : List KernelWatch) → filter (leaves d) (map (freshened n rs) ws) ≡ map (freshened n rs) (filter (leaves d) ws)

@@ -1,8 +1,10 @@
 -- Why a registration is reportable at the end of an event: the law of the machine, read off the registrations.
-use Rattle.std.proofs.Common.{◌≡◌, ◌<◌, ◌∙◌, ◌+◌, ◌==◌, ◌&&◌, ◌||◌, ◌⊎◌, ◌++◌, ℕ, Bool, true, false, List, [], ◌∷◌, None, Option, Some, ap, arith, inl, inr, length, map, nat_lt, refl, subst, sym, unwrap_or}
+use Rattle.std.proofs.Common.{◌≡◌, ◌<◌, ◌∙◌, ◌+◌, ◌==◌, ◌&&◌, ◌++◌, ℕ, Bool, true, false, List, [], ◌∷◌, None, Option, Some, ap, arith, inl, inr, length, map, nat_lt, refl, subst, sym, unwrap_or}
 use Rattle.std.specs.Option.{option_map}
 use Rattle.std.specs.Prelude.{MatchOption}
 use Rattle.std.proofs.lemmas.Bool.Decides.{nat_tests}
+use Rattle.ep_facts.proofs.NatFacts.{from_test}
+use Rattle.ep_facts.proofs.BoolFacts.{both_true, or_cases}
 use Rattle.ep_base.specs.Limits.{Limits}
 use Rattle.ep_base.specs.declared.answer.Answer.{Answer}
 use Rattle.ep_base.specs.declared.call.Event.{Event}
@@ -28,7 +30,6 @@ use Rattle.ep_interest.specs.declared.entry.Entry.{Entry}
 use Rattle.ep_law.proofs.GraphLemmas.{member_of_map}
 use Rattle.ep_law.proofs.ListLemmas.{member_map}
 use Rattle.ep_law.proofs.StepLemmas.{after_first, change_counted, change_n, refused_step, step_changed}
-use Rattle.ep_law.proofs.TestLemmas.{both_true, from_test}
 use Rattle.ep_law.specs.Laws.{HasCause as Cause, Member, ReportablesAreSpread, passes_on_of}
 use Rattle.ep_machine.specs.Bits.{IN, asked}
 use Rattle.ep_machine.specs.Effect.{first}
@@ -46,10 +47,6 @@ use Rattle.ep_view.proofs.KernelViewLemmas.{readiness as machine_readiness, repo
 use Rattle.ep_view.proofs.SettleLemmas.{settle_remains}
 use Rattle.ep_view.specs.AtRest.{Changed, Remains}
 use Rattle.ep_view.specs.KernelView.{KernelWatch, carries, kernel_watch, kernel_watches, ready_now, reached_now, shows, watches_instance}
-
-or_either : (a b : Bool) → (a || b) ≡ true → (a ≡ true) ⊎ (b ≡ true)
-or_either true b h = inl refl
-or_either false b h = inr h
 
 above_zero : (k n : ℕ) → k ≡ n → 0 < n → nat_lt 0 k ≡ true
 above_zero k n e lt = grind (arith, nat_tests, e, lt)
@@ -181,7 +178,7 @@ module _ (law : ReportablesAreSpread) (past : List Record) (old mid left : Parts
       passing on =
           let carried : carries reached v.files n noted ≡ true =
           sym (passes_is n outcome.raising mid spreads.noted buried spreads.leaves b c m.stands changed settled_change at_c counted as_raised same_files w cause.left) ∙ on in
-          elim (or_either (noted.passes_in == n) (noted.armed && watches_instance v.files noted && reached noted.target && nat_lt 0 (asked noted.mask IN)) carried) [
+          elim (or_cases (noted.passes_in == n) (noted.armed && watches_instance v.files noted && reached noted.target && nat_lt 0 (asked noted.mask IN)) carried) [
             | inl here ↦
                 let passes : (risen reached v found.0).passes_in ≡ n = ap (λ (k : KernelWatch). k.passes_in) found.2 ∙ from_test noted.passes_in n here in
                 inr (inl (subst (λ (z : Entry). nat_lt 0 z.passes_in ≡ true) same (above_zero (risen reached v found.0).passes_in n passes (omega (arith, begins)))))

@@ -2,6 +2,9 @@
 use Rattle.std.proofs.Common.{◌≡◌, ◌∙◌, ◌==◌, ◌&&◌, ◌||◌, ◌++◌, ℕ, Bool, true, false, All, List, [], ◌∷◌, Option, ap, cond, map, refl, sym}
 use Rattle.std.specs.List.{list_any}
 use Rattle.std.proofs.lemmas.List.Elements.{All-cons, All-head, All-tail}
+use Rattle.std.proofs.Math.Bool.{or-false}
+use Rattle.ep_facts.proofs.NatFacts.{from_test}
+use Rattle.ep_facts.proofs.BoolFacts.{or_assoc}
 use Rattle.ep_base.specs.declared.ids.DescId.{DescId}
 use Rattle.ep_interest.specs.Registrations.{settled}
 use Rattle.ep_interest.specs.declared.entry.Entry.{Entry}
@@ -12,7 +15,6 @@ use Rattle.ep_view.specs.KernelView.{KernelWatch, watches_instance}
 use Rattle.ep_calls.specs.Climb.{climbs_to, risen}
 use Rattle.ep_calls.specs.Stands.{IsLinked, number_at, watch_at}
 use Rattle.ep_table.specs.Value.{Seen}
-use Rattle.ep_law.proofs.TestLemmas.{from_test}
 
 abbrev pub among_keys : List DescId → DescId → Bool
 among_keys ds k = list_any (λ d. k.0 == d.0) ds
@@ -24,16 +26,8 @@ fresh_after reached keys ds x = among_keys ds x.desc && reached (number_at keys 
 abbrev pub climbs_on : (ℕ → Bool) → List (Option ℕ) → List DescId → Entry → Entry
 climbs_on reached keys ds x = record x { fresh = fresh_after reached keys ds x }
 
-or_false : (b : Bool) → (b || false) ≡ b
-or_false true = refl
-or_false false = refl
-
-or_assoc : (a b c : Bool) → (a || (b || c)) ≡ ((a || b) || c)
-or_assoc true b c = refl
-or_assoc false b c = refl
-
 among_more : (ds : List DescId) (d k : DescId) → among_keys (ds ++ d ∷ []) k ≡ (among_keys ds k || (k.0 == d.0))
-among_more [] d k = or_false (k.0 == d.0)
+among_more [] d k = or-false (k.0 == d.0)
 among_more (c ∷ ds) d k = ap (λ (b : Bool). k.0 == c.0 || b) (among_more ds d k) ∙ or_assoc (k.0 == c.0) (among_keys ds k) (k.0 == d.0)
 
 -- one instance more

@@ -3,6 +3,10 @@ use Rattle.std.proofs.Common.{nat_lt, ◌≡◌, ◌∙◌, ◌==◌, ◌&&◌, 
 use Rattle.std.proofs.lemmas.Bool.{false≢true}
 use Rattle.std.proofs.lemmas.List.{append-nil}
 use Rattle.std.proofs.lemmas.List.Elements.{All-cons, All-head, All-map, All-nil, All-tail, All-weaker}
+use Rattle.ep_facts.proofs.NatFacts.{same_nat}
+use Rattle.ep_facts.proofs.AmongFacts.{among_append}
+use Rattle.ep_facts.proofs.OptionFacts.{value_of}
+use Rattle.ep_facts.proofs.BoolFacts.{both_true, or_right}
 use Rattle.ep_base.specs.declared.ids.DescId.{DescId}
 use Rattle.ep_machine.specs.Bits.{IN, asked, has_bit}
 use Rattle.ep_machine.specs.Counts.{brings}
@@ -23,9 +27,8 @@ use Rattle.ep_view.proofs.FreshLemmas.{deaths_raise, fresh_filter, fresh_parts}
 use Rattle.ep_view.proofs.DeathLemmas.{Buried, all_buried, Apart, same_raised}
 use Rattle.ep_law.proofs.DeathLemmas.{ArePlaced, after_all, numbers, same_dead}
 use Rattle.ep_law.proofs.NamedLivesLemmas.{dying_distinct, dying_placed}
-use Rattle.ep_view.proofs.FilesLemmas.{among_append, watched_same}
+use Rattle.ep_view.proofs.FilesLemmas.{watched_same}
 use Rattle.ep_view.proofs.SettleLemmas.{dying_test}
-use Rattle.ep_law.proofs.TestLemmas.{or_right, same_nat}
 use Rattle.ep_interest.specs.declared.entry.Entry.{Entry}
 use Rattle.ep_calls.specs.Burial.{Burial, is_untouched}
 use Rattle.ep_calls.specs.Climb.{KeepsLinks}
@@ -76,10 +79,6 @@ module _ (n : ℕ) (mid new : Parts) (coherent : AreCoherent mid) (burial : Buri
       let u = under_key mid.tables.keys key h in
       let e : number_at mid.tables.keys key ≡ u.number = ap (λ (o : Option ℕ). unwrap_or o 0) u.is in
       ap (λ (n : ℕ). is_live mid.tables.files n) e ∙ to_true (place_of mid.tables.files u.number) (sound.place key u.number u.is)
-
-  both_true : (a b : Bool) → (a && b) ≡ true → (a ≡ true) × (b ≡ true)
-  both_true true b h = (refl, h)
-  both_true false b h = absurd (false≢true h)
 
   abbrev waited : List ℕ
   waited = map (λ w. w.instance) (waiters_at mid.tables.keys mid.parked)
@@ -238,10 +237,7 @@ module _ (n : ℕ) (mid new : Parts) (coherent : AreCoherent mid) (burial : Buri
     placed_dying = subst (λ (f : Files). ArePlaced f (dying after)) stands.files (dying_placed after)
 
     live_place : (f : Files) (d : ℕ) → is_live f d ≡ true → (p : Place) × (place_of f d ≡ Some p)
-    live_place f d h = some_at (place_of f d) h where
-      some_at : (o : Option Place) → is_some o ≡ true → (p : Place) × (o ≡ Some p)
-      some_at None e = absurd (false≢true e)
-      some_at (Some p) e = (p, refl)
+    live_place f d h = value_of (place_of f d) h
 
     -- at what lives on both are the same
     raised_same : (d : ℕ) → is_live t.files d ≡ true → raised_of of_machine d ≡ raised_of of_kernel d

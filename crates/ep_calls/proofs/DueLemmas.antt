@@ -1,6 +1,8 @@
 -- What the clock raises, at one live description after another.
-use Rattle.std.proofs.Common.{true, false, ◌≡◌, ◌≢◌, ◌∙◌, ◌+◌, ℕ, suc, All, Bool, IsSome, List, [], ◌∷◌, None, Option, Some, ap, arith, cond, get_or, map, refl, rules, slice_index_or, subst, sym}
+use Rattle.std.proofs.Common.{true, false, ◌≡◌, ◌≢◌, ◌∙◌, ◌+◌, ℕ, suc, All, Bool, IsSome, List, [], ◌∷◌, None, Option, Some, ap, cond, get_or, map, refl, rules, slice_index_or, subst, sym}
 use Rattle.std.proofs.lemmas.List.Elements.{All-cons}
+use Rattle.std.proofs.Math.Nat.{add-zero, zero-add}
+use Rattle.ep_facts.proofs.NatFacts.{shift}
 use Rattle.ep_base.specs.declared.ids.DescId.{DescId}
 use Rattle.ep_base.specs.declared.mask.Mask.{Mask}
 use Rattle.ep_interest.specs.Registrations.{is_on, raised_on}
@@ -29,19 +31,13 @@ raised_nowhere o bits n [] h = refl
 raised_nowhere None bits n (x ∷ xs) h = ap (λ (ys : List Entry). x ∷ ys) (raised_nowhere None bits n xs h)
 raised_nowhere (Some k) bits n (x ∷ xs) h = absurd (h k refl)
 
-next_key : (j i : ℕ) → j + 1 + i ≡ j + suc i
-next_key j i = omega arith
-
-no_more : (j : ℕ) → j + 0 ≡ j
-no_more j = omega arith
-
 -- each key from one on that has a number
 module _ (all : List (Option ℕ)) where
   abbrev IsRest : ℕ → List (Option ℕ) → Type 0
   IsRest j rest = (i : ℕ) → slice_index_or all (j + i) None ≡ get_or rest i None
 
   next_rest : (j : ℕ) (o : Option ℕ) (rest : List (Option ℕ)) → IsRest j (o ∷ rest) → IsRest (j + 1) rest
-  next_rest j o rest h = λ i. ap (λ (n : ℕ). slice_index_or all n None) (next_key j i) ∙ h (suc i)
+  next_rest j o rest h = λ i. ap (λ (n : ℕ). slice_index_or all n None) (shift j i) ∙ h (suc i)
 
   live_after : (j : ℕ) (rest : List (Option ℕ)) → IsRest j rest → All (HasNumber all) (live_from j rest)
   live_after j [] h = search rules
@@ -49,11 +45,8 @@ module _ (all : List (Option ℕ)) where
   live_after j (Some n ∷ rest) h =
       let P : Option ℕ → Type 0 = λ o. IsSome o in
       All-cons (HasNumber all) (key_of j) (live_from (j + 1) rest)
-      (subst P (sym (ap (λ (k : ℕ). slice_index_or all k None) (sym (no_more j)) ∙ h 0)) refl)
+      (subst P (sym (ap (λ (k : ℕ). slice_index_or all k None) (sym (add-zero j)) ∙ h 0)) refl)
       (live_after (j + 1) rest (next_rest j (Some n) rest h))
 
-zero_plus : (k : ℕ) → 0 + k ≡ k
-zero_plus k = omega arith
-
 pub live_all : (keys : List (Option ℕ)) → All (HasNumber keys) (live_ids keys)
-live_all keys = live_after keys 0 keys (λ i. ap (λ (n : ℕ). slice_index_or keys n None) (zero_plus i))
+live_all keys = live_after keys 0 keys (λ i. ap (λ (n : ℕ). slice_index_or keys n None) (zero-add i))

@@ -1,6 +1,7 @@
 -- The keys of registrations that stay where others come or go, and the links that they name.
 use Rattle.std.proofs.Common.{◌≡◌, ◌≢◌, ◌∙◌, ℕ, zero, suc, All, Bool, true, false, List, [], ◌∷◌, None, Option, Some, ap, cond, filter, is_some, map, refl, slice_index_or, slice_set, sym}
 use Rattle.std.proofs.lemmas.List.Elements.{All-from_recursion, All-head, All-tail, All-weaker}
+use Rattle.ep_facts.proofs.OptionFacts.{none_is_some}
 use Rattle.ep_base.specs.declared.ids.EntryId.{EntryId}
 use Rattle.ep_interest.specs.Registrations.{GainsKey, IsSound, Registrations, id_of, left_number, number_under, numbered}
 use Rattle.ep_interest.specs.declared.entry.Entry.{Entry}
@@ -37,9 +38,6 @@ pub ids_left : (old new : Registrations) → IsSound old → IsSound new → ((i
 ids_left old new was is back =
     All-weaker (IsFound new) (KeepsId old new)
     (λ x own. let one = is.has_one x.number x own in same_id old new was is one.0 x.number (back one.0 x.number one.1) one.1) new.entries (each_found new is)
-
-pub none_is_some : (n : ℕ) (o : Option ℕ) → o ≡ None → o ≡ Some n → ⊥
-none_is_some n o h k = absurd (let e : None ≡ Some n = sym h ∙ k in cc)
 
 -- where one key gains a registration
 pub ids_gained : (old new : Registrations) → IsSound old → IsSound new → (id : EntryId) (n : ℕ) → GainsKey old new id n → All (KeepsId old new) old.entries

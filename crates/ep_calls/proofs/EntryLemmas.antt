@@ -2,9 +2,10 @@
 use Rattle.std.proofs.Common.{◌≡◌, ◌∙◌, ◌==◌, ◌≤◌, ℕ, All, Bool, IsSome, List, [], ◌∷◌, None, Option, Some, ap, cond, inl, inr, refl, sym}
 use Rattle.std.proofs.lemmas.Bool.{cases_Bool, false≢true}
 use Rattle.std.proofs.lemmas.List.Elements.{All-from_recursion}
+use Rattle.ep_facts.proofs.OptionFacts.{some_same}
 use Rattle.ep_base.specs.declared.ids.EntryId.{EntryId}
 use Rattle.ep_calls.proofs.AdditionLemmas.{found_passes}
-use Rattle.ep_calls.proofs.FindLemmas.{each_numbered, some_one}
+use Rattle.ep_calls.proofs.FindLemmas.{each_numbered}
 use Rattle.ep_interest.proofs.PurgeLemmas.{numbered_number}
 use Rattle.ep_interest.specs.Registrations.{IsSound, Registrations, entry_found, entry_under, number_under, numbered}
 use Rattle.ep_interest.specs.declared.entry.Entry.{Entry}
@@ -33,7 +34,7 @@ some_found (Some x) h = (x, refl)
 find_entry : (xs : List Entry) (n : ℕ) (x : Entry) → numbered xs n ≡ Some x → Member x xs
 find_entry [] n x h = absurd (cc)
 find_entry (y ∷ ys) n x h = elim (cases_Bool (y.number == n)) [
-  | inl t ↦ inl (some_one x y (sym h ∙ ap (λ (b : Bool). cond b (Some y) (numbered ys n)) t))
+  | inl t ↦ inl (some_same x y (sym h ∙ ap (λ (b : Bool). cond b (Some y) (numbered ys n)) t))
   | inr f ↦ inr (find_entry ys n x (sym (ap (λ (b : Bool). cond b (Some y) (numbered ys n)) f) ∙ h))
 ]
 
@@ -47,7 +48,7 @@ module _ (r : Registrations) (sound : IsSound r) where
 
   -- members with one number are the same
   pub one_member : (x y : Entry) → Member x r.entries → Member y r.entries → x.number ≡ y.number → x ≡ y
-  one_member x y a b e = some_one x y (sym (own x a) ∙ (ap (numbered r.entries) e ∙ own y b))
+  one_member x y a b e = some_same x y (sym (own x a) ∙ (ap (numbered r.entries) e ∙ own y b))
 
   -- a key with a number has a registration
   pub some_entry : (id : EntryId) (k : ℕ) → number_under r id ≡ Some k → (x : Entry) × (entry_under r id ≡ Some x) × (x.number ≡ k)
@@ -59,7 +60,7 @@ module _ (r : Registrations) (sound : IsSound r) where
   pub one_under : (a b : EntryId) (x y : Entry) → entry_under r a ≡ Some x → entry_under r b ≡ Some y → x.number ≡ y.number → (a ≡ b) × (x ≡ y)
   one_under a b x y h k e = (
     sound.one_key a b y.number (number_of r a x h ∙ ap (λ (n : ℕ). Some n) e) (number_of r b y k),
-    some_one x y (sym (found_by r a x h) ∙ (ap (numbered r.entries) e ∙ found_by r b y k)),
+    some_same x y (sym (found_by r a x h) ∙ (ap (numbered r.entries) e ∙ found_by r b y k)),
   )
 
   -- a member has a key

@@ -1,10 +1,14 @@
 -- The registration under a key, by its number.
-use Rattle.std.proofs.Common.{◌≡◌, ◌==◌, ◌&&◌, ◌||◌, ◌<◌, ℕ, ℤ, Bool, true, false, not, List, [], ◌∷◌, Option, Some, None, IsSome, All, cond, filter, find, map, unwrap_or, refl, ap, sym, ◌∙◌, arith, inl, inr, pos, subst}
+use Rattle.std.proofs.Common.{◌≡◌, ◌==◌, ◌&&◌, ◌||◌, ◌<◌, ℕ, ℤ, Bool, true, false, not, List, [], ◌∷◌, Option, Some, None, IsSome, All, cond, filter, find, map, refl, ap, sym, ◌∙◌, arith, inl, inr, pos, subst}
 use Rattle.std.specs.List.{AllByRecursion, list_any}
 use Rattle.std.specs.Ordering.{int_eq}
 use Rattle.std.proofs.lemmas.Bool.{cases_Bool, false≢true}
 use Rattle.std.proofs.lemmas.Bool.Decides.{Decides-int_eq, nat_tests}
 use Rattle.std.proofs.lemmas.List.Elements.{All-cons, All-head, All-tail}
+use Rattle.std.proofs.Math.Bool.{or-false}
+use Rattle.ep_facts.proofs.NatFacts.{above_test, from_test, same_nat}
+use Rattle.ep_facts.proofs.BoolFacts.{same_bools}
+use Rattle.ep_facts.proofs.OptionFacts.{some_same}
 use Rattle.ep_base.specs.declared.ids.DescId.{DescId}
 use Rattle.ep_base.specs.declared.ids.Fd.{Fd}
 use Rattle.ep_base.specs.declared.mask.Mask.{Mask}
@@ -18,7 +22,6 @@ use Rattle.ep_calls.specs.Stands.{IsLinked, number_at, watch_at}
 use Rattle.ep_interest.specs.Exclusive.{is_exclusive}
 use Rattle.ep_calls.proofs.RegistrationLemmas.{same_key_test}
 use Rattle.ep_table.specs.Value.{Seen, Sound, number_under}
-use Rattle.ep_law.proofs.TestLemmas.{from_test, same_nat}
 
 -- two facts about each give a third
 both_of : (P Q R : Entry → Type 0) → ((x : Entry) → P x → Q x → R x) → (xs : List Entry) → AllByRecursion P xs → AllByRecursion Q xs → AllByRecursion R xs
@@ -54,19 +57,11 @@ found_by_test p (x ∷ xs) h = elim (cases_Bool (p x)) [
       let rest = found_by_test p xs (ap (λ (b : Bool). b || list_any p xs) (sym e) ∙ h) in (rest.0, ap (λ (b : Bool). cond b (Some x) (find p xs)) e ∙ rest.1, rest.2)
 ]
 
-pub some_one : (x y : Entry) → Some x ≡ Some y → x ≡ y
-some_one x y h = ap (λ (o : Option Entry). unwrap_or o x) h
-
 and_all : (a b c : Bool) → (a && b && c) ≡ true → (a ≡ true) × (b ≡ true) × (c ≡ true)
 and_all true true true h = (refl, refl, refl)
 and_all true true false h = absurd (false≢true h)
 and_all true false c h = absurd (false≢true h)
 and_all false b c h = absurd (false≢true h)
-
-pub same_bools : (a b : Bool) → (a ≡ true → b ≡ true) → (b ≡ true → a ≡ true) → a ≡ b
-same_bools true b f g = sym (f refl)
-same_bools false true f g = g refl
-same_bools false false f g = refl
 
 module _ (r : Registrations) (instance : DescId) (fd : Fd) (desc : DescId) (k : ℕ) (sound : IsSound r) (there : list_any (has_key instance fd desc) r.entries ≡ true) (is : numbered r.entries k ≡ find (has_key instance fd desc) r.entries) where
   found : (y : Entry) × (find (has_key instance fd desc) r.entries ≡ Some y) × (has_key instance fd desc y ≡ true)
@@ -84,7 +79,7 @@ module _ (r : Registrations) (instance : DescId) (fd : Fd) (desc : DescId) (k : 
       let c = from_test x.desc.0 desc.0 parts.2 in
       let same : has_key x.instance x.fd x.desc y ≡ true = (λ i. y.instance.0 == a i && int_eq y.fd.0 (b i) && y.desc.0 == c i) ∙ found.2 in
       let n = sound.apart x.number k x y own at_k same in ap (λ (m : ℕ). m == k) n ∙ same_nat k)
-      (λ e. let one : x ≡ y = some_one x y (sym own ∙ (ap (numbered r.entries) (from_test x.number k e) ∙ at_k)) in ap (has_key instance fd desc) one ∙ found.2)
+      (λ e. let one : x ≡ y = some_same x y (sym own ∙ (ap (numbered r.entries) (from_test x.number k e) ∙ at_k)) in ap (has_key instance fd desc) one ∙ found.2)
     where
       same_integer : (a b : ℤ) → int_eq a b ≡ true → a ≡ b
       same_integer a b e = (Decides-int_eq a b).0 e
@@ -98,23 +93,18 @@ module _ (r : Registrations) (instance : DescId) (fd : Fd) (desc : DescId) (k : 
 -- Of a number there is one at most.
 none_numbered : (k : ℕ) (q : Entry → Bool) (xs : List Entry) → AllByRecursion (λ x. k < x.number) xs → list_any (λ x. x.number == k && q x) xs ≡ false
 none_numbered k q [] h = refl
-none_numbered k q (x ∷ xs) h = let rest = none_numbered k q xs h.1 in let other = apart_after k x.number h.0 in λ i. other i && q x || rest i where
-  apart_after : (a b : ℕ) → a < b → (b == a) ≡ false
-  apart_after a b lt = grind (arith, nat_tests, lt)
+none_numbered k q (x ∷ xs) h = let rest = none_numbered k q xs h.1 in let other = above_test k x.number h.0 in λ i. other i && q x || rest i
 
 one_numbered : (m k : ℕ) (xs : List Entry) → RisesFrom m xs → list_any (λ x. x.number == k && is_exclusive x) xs ≡ is_exclusive_entry (numbered xs k)
 one_numbered m k [] h = refl
 one_numbered m k (x ∷ xs) h = elim (cases_Bool (x.number == k)) [
   | inl e ↦
       let none = none_numbered k is_exclusive xs (subst (λ (n : ℕ). AllByRecursion (λ y. n < y.number) xs) (from_test x.number k e) (rises_above x.number xs h.1)) in
-      (λ i. e i && is_exclusive x || none i) ∙ (or_false (is_exclusive x) ∙ sym (ap (λ (b : Bool). is_exclusive_entry (cond b (Some x) (numbered xs k))) e))
+      (λ i. e i && is_exclusive x || none i) ∙ (or-false (is_exclusive x) ∙ sym (ap (λ (b : Bool). is_exclusive_entry (cond b (Some x) (numbered xs k))) e))
   | inr e ↦
       let rest = one_numbered x.number k xs h.1 in
       (λ i. e i && is_exclusive x || rest i) ∙ sym (ap (λ (b : Bool). is_exclusive_entry (cond b (Some x) (numbered xs k))) e)
-] where
-  or_false : (b : Bool) → (b || false) ≡ b
-  or_false true = refl
-  or_false false = refl
+]
 
 -- what has a key is exclusive if the one of its number is
 pub exclusive_numbered : (instance : DescId) (fd : Fd) (desc : DescId) (k : ℕ) (xs : List Entry) → AllByRecursion (λ x. has_key instance fd desc x ≡ (x.number == k)) xs → RisesFrom 0 xs

@@ -3,6 +3,7 @@ use Rattle.std.proofs.Common.{◌≡◌, ◌∙◌, ◌==◌, ◌||◌, ◌<◌,
 use Rattle.std.proofs.lemmas.Bool.Decides.{nat_tests}
 use Rattle.std.proofs.lemmas.List.Elements.{All-head, All-tail}
 use Rattle.std.proofs.Math.ListN.{get_or-map, length-map}
+use Rattle.ep_facts.proofs.NatFacts.{test_turned}
 use Rattle.ep_law.specs.Laws.{Member}
 use Rattle.ep_machine.specs.Lists.{is_among}
 use Rattle.ep_machine.specs.State.{Waiter}
@@ -12,9 +13,6 @@ use Rattle.ep_calls.specs.Stands.{ArePlaced, IsPlaced, number_at, waiters_at}
 use Rattle.ep_calls.proofs.KeyLemmas.{same_keys}
 use Rattle.ep_table.specs.Value.{Seen, Sound}
 
-turned : (a b : ℕ) → (a == b) ≡ (b == a)
-turned a b = grind (arith, nat_tests)
-
 not_none : (n : ℕ) → false ≡ (suc n == 0)
 not_none n = grind (arith, nat_tests)
 
@@ -23,7 +21,7 @@ pub not_held : (ks : List ℕ) (d : ℕ) → not (is_among ks d) ≡ (length (fi
 not_held [] d = refl
 not_held (k ∷ ks) d =
     let rest = not_held ks d in
-    ap (λ (b : Bool). not (b || is_among ks d)) (turned d k)
+    ap (λ (b : Bool). not (b || is_among ks d)) (test_turned d k)
     ∙ elim (k == d) as (λ b. not (b || is_among ks d) ≡ (length (cond b (k ∷ filter (λ j. j == d) ks) (filter (λ j. j == d) ks)) == 0)) [
       | true ↦ not_none (length (filter (λ j. j == d) ks))
       | false ↦ rest

@@ -2,6 +2,8 @@
 use Rattle.std.proofs.Common.{◌≡◌, ◌∙◌, ◌==◌, ◌&&◌, ◌||◌, ◌++◌, ℕ, zero, suc, Bool, true, false, Contains, IsSome, List, [], ◌∷◌, None, Option, Some, ap, cond, filter, inl, inr, map, nat_lt, not, refl, subst, sym, unwrap_or}
 use Rattle.std.specs.List.{AllByRecursion, find as first_where, list_any}
 use Rattle.std.proofs.lemmas.Bool.{cases_Bool, false≢true}
+use Rattle.ep_facts.proofs.NatFacts.{from_test}
+use Rattle.ep_facts.proofs.OptionFacts.{some_same}
 use Rattle.ep_base.specs.declared.ids.DescId.{DescId}
 use Rattle.ep_base.specs.declared.ids.EntryId.{EntryId}
 use Rattle.ep_base.specs.declared.ids.Fd.{Fd}
@@ -10,7 +12,6 @@ use Rattle.ep_interest.specs.Registrations.{IsSound, Registrations, has_key, is_
 use Rattle.ep_interest.specs.declared.entry.Entry.{Entry}
 use Rattle.ep_law.proofs.ListLemmas.{all_member, any_member, member_filter, member_map}
 use Rattle.ep_law.proofs.ReadinessLemmas.{and_same}
-use Rattle.ep_law.proofs.TestLemmas.{from_test}
 use Rattle.ep_law.specs.Laws.{Member}
 use Rattle.ep_machine.specs.Bits.{ET, has_bit}
 use Rattle.ep_machine.specs.Files.{object_of}
@@ -92,22 +93,19 @@ others_modified keys named fd k mask tag (x ∷ xs) h f none = let first = one (
   one false is = refl
 
 -- where each that has the key is taken, none that has it is left
-none_left : (p : Entry → Bool) (k : ℕ) (xs : List Entry) → AllByRecursion (λ x. p x ≡ (x.number == k)) xs → list_any p (filter (is_other k) xs) ≡ false
+pub none_left : (p : Entry → Bool) (k : ℕ) (xs : List Entry) → AllByRecursion (λ x. p x ≡ (x.number == k)) xs → list_any p (filter (is_other k) xs) ≡ false
 none_left p k [] h = refl
 none_left p k (x ∷ xs) h = one (x.number == k) h.0 (none_left p k xs h.1) where
   one : (b : Bool) → p x ≡ b → list_any p (filter (is_other k) xs) ≡ false → list_any p (cond (not b) (x ∷ filter (is_other k) xs) (filter (is_other k) xs)) ≡ false
   one true is rest = rest
   one false is rest = ap (λ (b : Bool). b || list_any p (filter (is_other k) xs)) is ∙ rest
 
-some_one : (x y : Entry) → Some x ≡ Some y → x ≡ y
-some_one x y e = ap (λ (o : Option Entry). unwrap_or o x) e
-
 -- the registration that is found under a key shows what it shows, where its target is as ready as is told
 pub shown_named : (v : Seen) (now : ℕ) (r : Registrations) (named : Named) (fd : Fd) (below : Bool) (x : Entry) → IsBelow below v now r named fd → list_any (has_key named.instance fd named.desc) r.entries ≡ true → first_where (has_key named.instance fd named.desc) r.entries ≡ Some x
     → shown_over below v now x ≡ entry_bits (readiness v now r) v now x
 shown_named v now r named fd below x is_below there is =
     let y = found_by_test (has_key named.instance fd named.desc) r.entries there in
-    let has : has_key named.instance fd named.desc x ≡ true = subst (λ (z : Entry). has_key named.instance fd named.desc z ≡ true) (some_one y.0 x (sym y.1 ∙ is)) y.2 in
+    let has : has_key named.instance fd named.desc x ≡ true = subst (λ (z : Entry). has_key named.instance fd named.desc z ≡ true) (some_same y.0 x (sym y.1 ∙ is)) y.2 in
     let at : number_at v.keys x.desc ≡ number_at v.keys named.desc = ap (λ (n : ℕ). number_at v.keys (record { 0 = n })) (of_named named fd x has).1 in
     shown_below (readiness v now r) v now below x (λ nested.
     let nest : is_nested_key v named.desc ≡ true = ap (λ (d : ℕ). is_instance (unwrap_or (object_of v.files d) plain)) (sym at) ∙ nested in is_below there nest ∙ ap (readiness v now r) (sym at))

@@ -1,7 +1,8 @@
 -- Keys and the numbers of their descriptions.
-use Rattle.std.proofs.Common.{◌≡◌, ◌≢◌, ◌==◌, ℕ, List, Option, Some, None, IsSome, slice_index_or, unwrap_or, refl, ap, sym, ◌∙◌, arith, subst, inl, inr, ◌⊎◌}
-use Rattle.std.proofs.lemmas.Bool.{cases_Bool, false≢true}
+use Rattle.std.proofs.Common.{◌≡◌, ◌≢◌, ◌==◌, ℕ, List, Option, Some, None, IsSome, slice_index_or, unwrap_or, refl, ap, sym, ◌∙◌, arith, subst, inl, inr}
+use Rattle.std.proofs.lemmas.Bool.{false≢true}
 use Rattle.std.proofs.lemmas.Bool.Decides.{nat_tests}
+use Rattle.ep_facts.proofs.NatFacts.{same_or_not}
 use Rattle.ep_base.specs.declared.ids.DescId.{DescId}
 use Rattle.ep_machine.specs.Files.{object_of}
 use Rattle.ep_calls.specs.Stands.{KeepsKeys, number_at}
@@ -18,9 +19,6 @@ some_of (Some d) h = (d, refl)
 
 pub under_key : (keys : List (Option ℕ)) (key : DescId) → IsSome (slice_index_or keys key.0 None) → Under keys key
 under_key keys key h = let p = some_of (slice_index_or keys key.0 None) h in record { number = p.0; is = p.1 }
-
-same_or_not : (a b : ℕ) → (a ≡ b) ⊎ (a ≢ b)
-same_or_not a b = elim (cases_Bool (a == b)) [ inl e ↦ inl (grind (arith, nat_tests, e)) | inr e ↦ inr (λ h. grind (arith, nat_tests, e, h)) ]
 
 -- two tests with the same meaning answer alike
 pub same_tests : (a b c d : ℕ) → (a ≡ b → c ≡ d) → (c ≡ d → a ≡ b) → (a == b) ≡ (c == d)

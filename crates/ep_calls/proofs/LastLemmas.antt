@@ -1,8 +1,9 @@
 -- That nothing refuses a call or an event which wants memory.
-use Rattle.std.proofs.Common.{◌≡◌, ◌∙◌, ◌≤◌, ◌∷◌, ℕ, Bool, IsSome, List, None, Option, Some, ap, arith, false, true, find, is_none, is_some, length, min, refl, sym, unwrap_or}
+use Rattle.std.proofs.Common.{◌≡◌, ◌∙◌, ◌≤◌, ◌∷◌, ℕ, Bool, IsSome, List, None, Option, Some, ap, arith, false, true, find, is_none, is_some, length, min, refl, unwrap_or}
 use Rattle.std.proofs.Math.Nat.{lt_of_not-le}
 use Rattle.ep_base.specs.declared.errno.Errno.TheVariants.{Ebusy, Esrch}
 use Rattle.std.specs.List.{list_any}
+use Rattle.ep_facts.proofs.OptionFacts.{some_not_none}
 use Rattle.ep_base.specs.declared.call.Call.{Call}
 use Rattle.ep_base.specs.declared.call.Event.{Event}
 use Rattle.ep_base.specs.declared.call.Event.TheVariants.{Call as CallOf, Resume}
@@ -73,10 +74,6 @@ module _ (p : Parts) (pid : ℕ) where
 pub resume_last : (p : Parts) (caller : ℕ) (w : ParkedWaiter) → find (is_caller caller) p.parked ≡ Some (parked caller w) → NothingRefuses p caller Resume
 resume_last p caller w is = λ n s at sound quiet legal stands.
     resume_allowed p.tables.limits s caller (parked_found s caller ∙ ap (λ (o : Option Waiter). is_some o) (there p.graph p.tables p.interest p.parked p.clock caller p.tables.limits s stands w is))
-
-some_not_none : {X : Type 0} (o : Option X) → is_some o ≡ true → is_none o ≡ false
-some_not_none None h = sym h
-some_not_none (Some x) h = refl
 
 -- past the two tests of the caller it is the call
 pub past_last : (p : Parts) (caller : ℕ) (pid : Pid) (call : Call) → is_some (table_of p.tables.files pid.0) ≡ true → list_any (is_caller caller) p.parked ≡ false → NothingRefusesCall p pid.0 call → NothingRefuses p caller (CallOf pid call)

@@ -48,6 +48,7 @@ pub mod IdLemmas
 pub mod NextArrivalLemmas
 pub mod NextMomentLemmas
 pub mod FirstMarkedLemmas
+pub mod FoundLeftLemmas
 pub mod SparedLemmas
 pub mod LastLemmas
 pub mod AttendLemmas

@@ -1,29 +1,21 @@
 -- Links of registrations that are added or deleted.
-use Rattle.std.proofs.Common.{◌≡◌, ◌∙◌, ◌==◌, ◌||◌, ◌++◌, ℕ, All, Bool, true, false, IsSome, List, [], ◌∷◌, None, Option, Some, ap, arith, cond, filter, inl, inr, is_some, map, not, refl, slice_index_or, slice_set, sym, unwrap_or}
+use Rattle.std.proofs.Common.{◌≡◌, ◌∙◌, ◌==◌, ◌||◌, ◌++◌, ℕ, All, Bool, true, false, IsSome, List, [], ◌∷◌, None, Option, Some, ap, cond, filter, inl, inr, is_some, map, not, refl, slice_index_or, slice_set, sym, unwrap_or}
 use Rattle.std.proofs.lemmas.Bool.{cases_Bool, eqb-true}
-use Rattle.std.proofs.lemmas.Bool.Decides.{nat_tests}
 use Rattle.std.proofs.lemmas.List.Elements.{All-filter, All-head, All-map, All-tail, All-weaker}
+use Rattle.ep_facts.proofs.OptionFacts.{none_is_some, number_of}
+use Rattle.ep_facts.proofs.NatFacts.{same_nat, test_apart, test_turned}
 use Rattle.ep_base.specs.declared.ids.EntryId.{EntryId}
 use Rattle.ep_base.specs.declared.mask.Mask.{Mask}
 use Rattle.ep_interest.specs.Registrations.{GainsKey, IsSound, Registrations, id_of, is_other, modified, number_under, numbered, place_among}
 use Rattle.ep_interest.specs.declared.entry.Entry.{Entry}
-use Rattle.ep_interest.proofs.NumberLemmas.{test_apart}
 use Rattle.ep_machine.specs.Lists.{is_among}
 use Rattle.ep_nest.specs.Links.{entries, without}
 use Rattle.ep_nest.specs.declared.link.Link.{Link}
 use Rattle.ep_calls.specs.Climb.{is_nested, link_of}
-use Rattle.ep_calls.proofs.EntryKeyLemmas.{IsKeyed, each_found, each_keyed, id_is, ids_gained, ids_left, links_named, none_is_some, removed_was}
+use Rattle.ep_calls.proofs.EntryKeyLemmas.{IsKeyed, each_found, each_keyed, id_is, ids_gained, ids_left, links_named, removed_was}
 use Rattle.ep_calls.proofs.GraphLemmas.{links_filtered, links_mapped, links_pushed}
 use Rattle.ep_calls.proofs.KeyLemmas.{same_tests}
 use Rattle.ep_table.specs.Value.{Seen}
-use Rattle.ep_law.proofs.TestLemmas.{same_nat}
-
-turned_test : (a b : ℕ) → (a == b) ≡ (b == a)
-turned_test a b = grind (arith, nat_tests)
-
-some_of : (o : Option ℕ) → IsSome o → o ≡ Some (unwrap_or o 0)
-some_of None h = absurd cc
-some_of (Some n) h = refl
 
 -- a link's key is that of a registration
 abbrev pub IsNamed : Registrations → Link → Type 0
@@ -41,7 +33,7 @@ fresh_link r id free (l ∷ ls) h =
     let rest = fresh_link r id free ls (All-tail (IsNamed r) l ls h) in
     let named : IsNamed r l = All-head (IsNamed r) l ls h in
     let apart : (id.0 == l.entry.0) ≡ false =
-    test_apart id.0 l.entry.0 (λ e. none_is_some (unwrap_or (number_under r l.entry) 0) (number_under r id) free (ap (λ (k : ℕ). slice_index_or r.keys k None) e ∙ some_of (number_under r l.entry) named)) in
+    test_apart id.0 l.entry.0 (λ e. none_is_some (unwrap_or (number_under r l.entry) 0) (number_under r id) free (ap (λ (k : ℕ). slice_index_or r.keys k None) e ∙ number_of (number_under r l.entry) named)) in
     λ i. apart i || rest i
 
 -- a link that was added and is taken away
@@ -51,7 +43,7 @@ unlinked (x ∷ xs) l h = elim (cases_Bool (l.entry.0 == x.entry.0)) [
   | inl same ↦ cc
   | inr other ↦
       let rest = unlinked xs l (ap (λ (b : Bool). b || is_among (entries xs) l.entry.0) (sym other) ∙ h) in
-      ap (λ (b : Bool). cond (not b) (x ∷ without l.entry.0 (xs ++ l ∷ [])) (without l.entry.0 (xs ++ l ∷ []))) (turned_test x.entry.0 l.entry.0 ∙ other)
+      ap (λ (b : Bool). cond (not b) (x ∷ without l.entry.0 (xs ++ l ∷ [])) (without l.entry.0 (xs ++ l ∷ []))) (test_turned x.entry.0 l.entry.0 ∙ other)
       ∙ ap (λ (ls : List Link). x ∷ ls) rest
 ]
 
@@ -62,7 +54,7 @@ module _ (p : Entry → Bool) (old : Registrations) (was : IsSound old) (id : En
 
   same_one : (x : Entry) → IsKeyed old x → not (place_among old.keys x.number == id.0) ≡ is_other number x
   same_one x keyed =
-      let stands = some_of (number_under old id) there in
+      let stands = number_of (number_under old id) there in
       ap not
       (same_tests (place_among old.keys x.number) id.0 x.number number
       (λ e. ap (λ (o : Option ℕ). unwrap_or o 0) (sym keyed ∙ (ap (λ (k : ℕ). slice_index_or old.keys k None) e ∙ stands)))

@@ -1,7 +1,7 @@
 -- The first moment that has an effect.
 use Rattle.std.proofs.Common.{◌≡◌, ◌∙◌, ◌+◌, ◌-◌, ◌<◌, ◌≤◌, ◌&&◌, ◌||◌, ℕ, Bool, true, false, not, List, [], ◌∷◌, None, Option, Some, ap, arith, map, nat_le, nat_lt, refl, subst, sym, unwrap_or}
 use Rattle.std.specs.Prelude.{◌↔◌, IfSome, IsSome}
-use Rattle.std.proofs.Math.Nat.{lt_of_not-le}
+use Rattle.std.proofs.Math.Nat.{add-zero, lt_of_not-le}
 use Rattle.std.proofs.lemmas.Bool.{false≢true}
 use Rattle.std.specs.List.{list_any}
 use Rattle.std.proofs.lemmas.Bool.Decides.{nat_tests}
@@ -65,20 +65,17 @@ module _ (ready : ℕ → Bool) (now : ℕ) (all : List Waiter) where
       (unawaited w.marked (is_due now w.deadline) (not (waits_at before w.instance) && not (is_marked_at all w.instance) && ready w.instance))
       ∙ none_awaits (due ∷ before) ws
 
-same_moment : (n : ℕ) → n + 0 ≡ n
-same_moment n = omega arith
-
 no_effect_now : (s : State) → AtRest s → has_effect s 0 ≡ false
 no_effect_now s rest = λ i. raises i || marks i
   where
     raises : tick_raises s 0 ≡ false
-    raises = raised_each s (s.now + 0) (live s.files) ∙ (ap (λ (n : ℕ). arrives_by s.files s.now n) (same_moment s.now) ∙ none_raised s.now s.files (live s.files))
+    raises = raised_each s (s.now + 0) (live s.files) ∙ (ap (λ (n : ℕ). arrives_by s.files s.now n) (add-zero s.now) ∙ none_raised s.now s.files (live s.files))
 
     marks : tick_marks s 0 ≡ false
     marks =
         let ready = needs_mark s in
         let due = map (marked_if_due s.now) s.waiters in
-        (λ i. list_any (awaits_mark (same_moment s.now i)) (sym rest.marks i)) ∙ none_awaits ready s.now due [] s.waiters
+        (λ i. list_any (awaits_mark (add-zero s.now i)) (sym rest.marks i)) ∙ none_awaits ready s.now due [] s.waiters
 
 -- What the earliest moment tells.
 module _ (s : State) (first : Option ℕ) (told : (k : ℕ) → has_effect s k ≡ is_due (s.now + k) first) where

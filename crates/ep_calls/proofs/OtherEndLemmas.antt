@@ -1,6 +1,8 @@
 -- What is raised at the description across, at each registration.
 use Rattle.std.proofs.Common.{◌||◌, if◌then◌else◌, nat_lt, ◌≡◌, ◌≢◌, ◌==◌, ◌&&◌, ◌⊎◌, ◌∙◌, ℕ, Bool, true, false, IsSome, List, None, Option, Some, ap, cond, inl, inr, refl, slice_index_or, sym, unwrap_or}
-use Rattle.std.proofs.lemmas.Bool.{cases_Bool, false≢true}
+use Rattle.std.proofs.lemmas.Bool.{cases_Bool, false_from_ne_true, false≢true}
+use Rattle.std.proofs.Math.Bool.{and-false}
+use Rattle.ep_facts.proofs.NatFacts.{from_test, same_test}
 use Rattle.ep_base.specs.declared.ids.DescId.{DescId}
 use Rattle.ep_base.specs.declared.mask.Mask.{Mask}
 use Rattle.ep_base.specs.declared.object.End.{End}
@@ -14,15 +16,10 @@ use Rattle.ep_view.specs.KernelView.{stirred}
 use Rattle.ep_view.proofs.ClimbLemmas.{zero_asked, zero_brings}
 use Rattle.ep_machine.specs.Files.{Files, Place, place_of}
 use Rattle.ep_view.proofs.DeathLemmas.{Apart}
-use Rattle.ep_law.proofs.TestLemmas.{from_test, same_test}
 use Rattle.ep_calls.specs.Raising.{raised_there}
 use Rattle.ep_calls.specs.Stands.{IsLinked, number_at, watch_at}
 use Rattle.ep_calls.proofs.KeyLemmas.{under_key}
 use Rattle.ep_table.specs.Closing.{IsAt, across, opposite}
-
-pub never : (p : Bool) → (p && false) ≡ false
-never true = refl
-never false = refl
 
 -- what a registration notes of these bits, raised at its target in event n
 abbrev pub noted : ℕ → ℕ → Entry → Entry
@@ -30,7 +27,7 @@ noted n bits x = record x { fresh = brings x.mask.0 bits || x.fresh; passes_in =
 
 -- of no bits nothing
 pub zero_noted : (n : ℕ) (x : Entry) → noted n 0 x ≡ x
-zero_noted n x = λ i. record x { fresh = zero_brings x.mask.0 i || x.fresh; passes_in = if (ap (λ (b : Bool). x.armed && b) (zero_asked x.mask.0) ∙ never x.armed) i then n else x.passes_in }
+zero_noted n x = λ i. record x { fresh = zero_brings x.mask.0 i || x.fresh; passes_in = if (ap (λ (b : Bool). x.armed && b) (zero_asked x.mask.0) ∙ and-false x.armed) i then n else x.passes_in }
 
 pub watch_noted : (keys : List (Option ℕ)) (n bits : ℕ) (x : Entry) → watch_at keys (noted n bits x) ≡ stirred n (brings x.mask.0 bits) (x.armed && nat_lt 0 (asked x.mask.0 bits)) (watch_at keys x)
 watch_noted keys n bits x = refl
@@ -58,10 +55,6 @@ not_opposite Second = λ e. cc
 there_off : (n : ℕ) (o : Option DescId) (m : Mask) (y : Entry) → ((k : DescId) → o ≡ Some k → is_on k y ≡ false) → raised_there o m n y ≡ y
 there_off n None m y off = refl
 there_off n (Some k) m y off = ap (λ (b : Bool). cond b (noted n m.0 y) y) (off k refl)
-
-not_true : (b : Bool) → (b ≡ true → ⊥) → b ≡ false
-not_true true h = absurd (h refl)
-not_true false h = refl
 
 other_cases : (o : Option DescId) → (o ≡ None) ⊎ ((k : DescId) × (o ≡ Some k))
 other_cases None = inl refl
@@ -94,7 +87,7 @@ module _ (keys : List (Option ℕ)) (files : Files) (p : Place) (raised : Raised
 
   -- where it is at the place itself, it is not on the one across
   pub off_own : q ≡ p → (y : Entry) → y.desc ≡ x.desc → raised_there other m n y ≡ y
-  off_own same y d = there_off n other m y (λ k h. not_true (is_on k y) (λ on. not_opposite p.side (ap (λ (z : Place). z.side) (sym (is_across k h (ap (λ (e : DescId). e.0 == k.0) (sym d) ∙ on)) ∙ same))))
+  off_own same y d = there_off n other m y (λ k h. false_from_ne_true (is_on k y) (λ on. not_opposite p.side (ap (λ (z : Place). z.side) (sym (is_across k h (ap (λ (e : DescId). e.0 == k.0) (sym d) ∙ on)) ∙ same))))
 
   pub elsewhere : q ≢ p → raised_there other m n x ≡ noted n (when (q.object == p.object) (at_end raised q.side)) x
   elsewhere ne = elim (cases_Bool (q.object == p.object)) [
@@ -115,7 +108,7 @@ module _ (keys : List (Option ℕ)) (files : Files) (p : Place) (raised : Raised
               ]
         ]
     | inr apart_object ↦
-        let off : (k : DescId) → other ≡ Some k → is_on k x ≡ false = λ k h. not_true (is_on k x) (λ on. false≢true (sym apart_object ∙ same_test q.object p.object (ap (λ (z : Place). z.object) (is_across k h on)))) in
+        let off : (k : DescId) → other ≡ Some k → is_on k x ≡ false = λ k h. false_from_ne_true (is_on k x) (λ on. false≢true (sym apart_object ∙ same_test q.object p.object (ap (λ (z : Place). z.object) (is_across k h on)))) in
         there_off n other m x off
         ∙ sym (ap (λ (b : Bool). noted n (when b (at_end raised q.side)) x) apart_object ∙ zero_noted n x)
   ]

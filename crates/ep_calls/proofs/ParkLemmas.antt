@@ -1,10 +1,11 @@
 -- Waiters that come and go, and the instances that are held for them.
 use Rattle.std.proofs.Common.{◌≡◌, ◌≢◌, ◌∙◌, ◌==◌, ◌++◌, ◌+◌, ◌-◌, ◌<◌, ℕ, zero, suc, Bool, true, false, All, IsSome, List, [], ◌∷◌, None, Option, Some, ap, arith, cond, filter, if◌then◌else◌, inl, inr, length, map, nat_eq, not, refl, slice_index_or, subst, sym, unwrap_or}
 use Rattle.std.specs.List.{AllByRecursion, IsDistinct, find, list_any}
-use Rattle.std.proofs.lemmas.Bool.{cases_Bool, false≢true}
+use Rattle.std.proofs.lemmas.Bool.{cases_Bool, false≢true, or_parts}
 use Rattle.std.proofs.lemmas.Bool.Decides.{nat_tests}
 use Rattle.std.proofs.lemmas.List.{get_or-set_other, get_or-set_same}
 use Rattle.std.proofs.lemmas.List.Elements.{All-head, All-tail}
+use Rattle.ep_facts.proofs.NatFacts.{from_test, plus_none, same_nat}
 use Rattle.ep_base.specs.declared.ids.DescId.{DescId}
 use Rattle.ep_machine.specs.Files.{Place}
 use Rattle.ep_machine.specs.State.{Waiter}
@@ -14,7 +15,6 @@ use Rattle.ep_calls.specs.Stands.{AreHeld}
 use Rattle.ep_calls.specs.Stands.{ArePlaced, IsPlaced, number_at, waiters_at}
 use Rattle.ep_calls.proofs.KeyLemmas.{under_key}
 use Rattle.ep_table.specs.Value.{Seen, Sound, count_at, holds_of, less_at, more_at, number_of, number_under}
-use Rattle.ep_law.proofs.TestLemmas.{from_test, neither, same_nat}
 
 apart : (a b : ℕ) → (a == b) ≡ false → b ≢ a
 apart a b e = λ h. grind (arith, nat_tests, e, h)
@@ -44,7 +44,7 @@ none_left c (w ∷ ws) none = elim (cases_Bool (w.caller == c)) [
 pub left_parked : (c : ℕ) (ws : List Waiter) (w : ParkedWaiter) → list_any (is_caller c) ws ≡ false → without c (ws ++ parked c w ∷ []) ≡ ws
 left_parked c [] w free = ap (λ (b : Bool). cond (not b) (parked c w ∷ []) []) (same_nat c)
 left_parked c (v ∷ ws) w free =
-    let r = neither (v.caller == c) (list_any (is_caller c) ws) free in
+    let r = or_parts (v.caller == c) (list_any (is_caller c) ws) free in
     ap (λ (b : Bool). cond (not b) (v ∷ without c (ws ++ parked c w ∷ [])) (without c (ws ++ parked c w ∷ []))) r.0
     ∙ ap (λ (xs : List Waiter). v ∷ xs) (left_parked c ws w r.1)
 
@@ -116,21 +116,16 @@ holds_more hs n d l = elim (cases_Bool (n == d)) [
   | inl e ↦
       let is = from_test n d e in
       ap (count_at (more_at hs n)) (sym is) ∙ (get_or-set_same hs n (count_at hs n + 1) 0 l ∙ λ i. count_at hs (is i) + once (sym e i))
-  | inr e ↦ get_or-set_other hs n d (count_at hs n + 1) 0 (apart n d e) ∙ (add_none (count_at hs d) ∙ ap (λ (b : Bool). count_at hs d + once b) (sym e))
-] where
-  add_none : (a : ℕ) → a ≡ a + 0
-  add_none a = omega arith
+  | inr e ↦ get_or-set_other hs n d (count_at hs n + 1) 0 (apart n d e) ∙ (plus_none (count_at hs d) ∙ ap (λ (b : Bool). count_at hs d + once b) (sym e))
+]
 
 holds_less : (hs : List ℕ) (n d : ℕ) → n < length hs → 0 < count_at hs n → count_at (less_at hs n) d + once (n == d) ≡ count_at hs d
 holds_less hs n d l some = elim (cases_Bool (n == d)) [
   | inl e ↦
       let is = from_test n d e in
       (λ i. count_at (less_at hs n) (sym is i) + once (e i)) ∙ (ap (λ (a : ℕ). a + 1) (get_or-set_same hs n (count_at hs n - 1) 0 l) ∙ (back (count_at hs n) some ∙ ap (count_at hs) is))
-  | inr e ↦ (λ i. get_or-set_other hs n d (count_at hs n - 1) 0 (apart n d e) i + once (e i)) ∙ add_none (count_at hs d)
+  | inr e ↦ (λ i. get_or-set_other hs n d (count_at hs n - 1) 0 (apart n d e) i + once (e i)) ∙ sym (plus_none (count_at hs d))
 ] where
-  add_none : (a : ℕ) → a + 0 ≡ a
-  add_none a = omega arith
-
   back : (a : ℕ) → 0 < a → (a - 1) + 1 ≡ a
   back a h = omega arith
 

@@ -1,21 +1,15 @@
 -- What reports leave of registrations.
 use Rattle.std.proofs.Common.{◌≡◌, ◌==◌, ◌&&◌, ◌||◌, ◌++◌, ℕ, Bool, false, true, List, [], ◌∷◌, cond, map, not, refl, ap, sym, ◌∙◌}
+use Rattle.std.proofs.Math.Bool.{or-false}
+use Rattle.ep_facts.proofs.BoolFacts.{or_assoc}
 use Rattle.ep_interest.specs.Registrations.{reported}
 use Rattle.ep_interest.specs.declared.entry.Entry.{Entry}
 use Rattle.ep_machine.specs.Bits.{ONESHOT, has_bit}
 use Rattle.ep_machine.specs.Lists.{is_among}
 use Rattle.ep_calls.specs.Wait.{with_report}
 
-or_false : (b : Bool) → (b || false) ≡ b
-or_false true = refl
-or_false false = refl
-
-or_assoc : (a b c : Bool) → (a || (b || c)) ≡ ((a || b) || c)
-or_assoc true b c = refl
-or_assoc false b c = refl
-
 among_more : (ks : List ℕ) (k n : ℕ) → is_among (ks ++ k ∷ []) n ≡ (is_among ks n || (n == k))
-among_more [] k n = or_false (n == k)
+among_more [] k n = or-false (n == k)
 among_more (x ∷ ks) k n = ap (λ (b : Bool). n == x || b) (among_more ks k n) ∙ or_assoc (n == x) (is_among ks n) (n == k)
 
 abbrev disarmed : ℕ → Entry → Entry
@@ -42,7 +36,7 @@ pub noted_more : (n k : ℕ) (ks : List ℕ) (xs : List Entry) → map (with_rep
 noted_more n k ks [] = refl
 noted_more n k ks (x ∷ xs) =
     let y = with_report n ks x in
-    let a : ((y.number == k) || false) ≡ (x.number == k) = or_false (y.number == k) ∙ ap (λ (m : ℕ). m == k) (number_noted n (is_among ks x.number) x) in
+    let a : ((y.number == k) || false) ≡ (x.number == k) = or-false (y.number == k) ∙ ap (λ (m : ℕ). m == k) (number_noted n (is_among ks x.number) x) in
     let one : with_report n (k ∷ []) y ≡ with_report n (ks ++ k ∷ []) x =
     ap (λ (c : Bool). cond c (disarmed n y) y) a
     ∙ (noted_one n (is_among ks x.number) (x.number == k) x
@@ -53,7 +47,7 @@ noted_more n k ks (x ∷ xs) =
 pub reported_one : (n k : ℕ) (xs : List Entry) → map (reported k n) xs ≡ map (with_report n (k ∷ [])) xs
 reported_one n k [] = refl
 reported_one n k (x ∷ xs) =
-    let one : reported k n x ≡ with_report n (k ∷ []) x = ap (λ (b : Bool). cond b (disarmed n x) x) (sym (or_false (x.number == k))) in
+    let one : reported k n x ≡ with_report n (k ∷ []) x = ap (λ (b : Bool). cond b (disarmed n x) x) (sym (or-false (x.number == k))) in
     let rest = reported_one n k xs in
     λ i. one i ∷ rest i
 

@@ -1,10 +1,10 @@
 -- What an event raises, at each registration.
-use Rattle.std.proofs.Common.{nat_lt, ◌≡◌, ◌≢◌, ◌==◌, ◌&&◌, ◌||◌, ◌⊎◌, ◌+◌, ◌∙◌, ℕ, zero, suc, All, Bool, true, false, IsSome, List, [], ◌∷◌, None, Option, Some, ap, arith, cond, get_or, if◌then◌else◌, inl, inr, map, refl, subst, sym, unwrap_or}
+use Rattle.std.proofs.Common.{nat_lt, ◌≡◌, ◌≢◌, ◌==◌, ◌&&◌, ◌||◌, ◌+◌, ◌∙◌, ℕ, zero, suc, All, Bool, true, false, IsSome, List, [], ◌∷◌, None, Option, Some, ap, arith, cond, get_or, if◌then◌else◌, inl, inr, map, refl, subst, sym, unwrap_or}
 use Rattle.std.specs.List.{list_any}
-use Rattle.std.proofs.lemmas.Bool.{cases_Bool, false≢true}
-use Rattle.std.proofs.lemmas.Bool.Decides.{nat_tests}
 use Rattle.std.proofs.lemmas.List.Elements.{All-cons, All-head, All-tail}
 use Rattle.std.proofs.lemmas.Option.{none-some}
+use Rattle.ep_facts.proofs.BoolFacts.{or_again, or_right}
+use Rattle.ep_facts.proofs.NatFacts.{from_test, same_nat, same_or_not, same_test, shift, test_apart, test_turned}
 use Rattle.ep_base.specs.declared.ids.DescId.{DescId}
 use Rattle.ep_base.specs.declared.mask.Mask.{Mask}
 use Rattle.ep_base.specs.declared.object.End.{End}
@@ -26,7 +26,6 @@ use Rattle.ep_calls.proofs.KeyLemmas.{same_keys, under_key}
 use Rattle.ep_table.specs.Closing.{IsAt, across, opposite}
 use Rattle.ep_table.specs.Live.{live_from, live_ids}
 use Rattle.ep_table.specs.Value.{Seen, Sound, number_of, number_under}
-use Rattle.ep_law.proofs.TestLemmas.{from_test, or_right, same_nat, same_test}
 
 -- where each registration is freshened by what is raised at its target
 pub record Freshens (v : Seen) (n : ℕ) (bits : ℕ → ℕ) (old new : List Entry) : Type 0 where
@@ -49,12 +48,6 @@ module _ (v : Seen) (n : ℕ) (bits : ℕ → ℕ) (f : Entry → Entry) (each :
 map_twice : (f g : Entry → Entry) (xs : List Entry) → map g (map f xs) ≡ map (λ x. g (f x)) xs
 map_twice f g [] = refl
 map_twice f g (x ∷ xs) = ap (λ (ys : List Entry). g (f x) ∷ ys) (map_twice f g xs)
-
-differs : (a b : ℕ) → a ≢ b → (a == b) ≡ false
-differs a b h = grind (arith, nat_tests, h)
-
-same_or_not : (a b : ℕ) → (a ≡ b) ⊎ (a ≢ b)
-same_or_not a b = elim (cases_Bool (a == b)) [ inl e ↦ inl (from_test a b e) | inr e ↦ inr (λ h. false≢true (sym e ∙ same_test a b h)) ]
 
 -- At the two ends of an object.
 abbrev side_at : Option Place → End
@@ -107,7 +100,7 @@ module _ (v : Seen) (desc : DescId) (raised : Raised) (n : ℕ) (sound : Sound v
             ∙ (off_own v.keys v.files p raised other there_at sound.one sound.apart n at_other m_is x link q target.1 qp (noted n at_own.0 x) refl
             ∙ ap (λ (k : ℕ). noted n k x) (sym (bits ∙ here)))
         | inr ne ↦
-            let off : raised_on desc at_own n x ≡ x = ap (λ (b : Bool). cond b (noted n at_own.0 x) x) (sym on_own ∙ differs t d ne) in
+            let off : raised_on desc at_own n x ≡ x = ap (λ (b : Bool). cond b (noted n at_own.0 x) x) (sym on_own ∙ test_apart t d ne) in
             let not_same : q ≢ p = λ e. ne (sound.apart t d p (target.1 ∙ ap (λ (z : Place). Some z) e) place.1) in
             ap (raised_there other at_other n) off
             ∙ (elsewhere v.keys v.files p raised other there_at sound.one sound.apart n at_other m_is x link q target.1 not_same
@@ -131,11 +124,7 @@ among_ids ids k = list_any (λ id. k == id.0) ids
 
 -- noted twice is noted once
 noted_again : (n k : ℕ) (x : Entry) → noted n k (noted n k x) ≡ noted n k x
-noted_again n k x = λ i. record x { fresh = fresh_again (brings x.mask.0 k) x.fresh i; passes_in = passes_again (x.armed && nat_lt 0 (asked x.mask.0 k)) x.passes_in i } where
-  fresh_again : (b c : Bool) → (b || (b || c)) ≡ (b || c)
-  fresh_again true c = refl
-  fresh_again false c = refl
-
+noted_again n k x = λ i. record x { fresh = or_again (brings x.mask.0 k) x.fresh i; passes_in = passes_again (x.armed && nat_lt 0 (asked x.mask.0 k)) x.passes_in i } where
   passes_again : (b : Bool) (m : ℕ) → (if b then n else if b then n else m) ≡ (if b then n else m)
   passes_again true m = refl
   passes_again false m = refl
@@ -165,16 +154,13 @@ arrive_is f n (id ∷ ids) x =
     ∙ (arrive_is f n ids y
     ∙ ((λ i. cond (among_ids ids (d i).0) (noted n (f (d i)).0 y) y) ∙ noted_either a (among_ids ids x.desc.0) n k x))
 
-next_key : (j i : ℕ) → j + 1 + i ≡ j + suc i
-next_key j i = omega arith
-
 pub in_live : (j i : ℕ) (keys : List (Option ℕ)) (n : ℕ) → get_or keys i None ≡ Some n → among_ids (live_from j keys) (j + i) ≡ true
 in_live j i [] n h = absurd (none-some n h)
 in_live j zero (None ∷ keys) n h = absurd (none-some n h)
-in_live j (suc i) (None ∷ keys) n h = ap (among_ids (live_from (j + 1) keys)) (sym (next_key j i)) ∙ in_live (j + 1) i keys n h
+in_live j (suc i) (None ∷ keys) n h = ap (among_ids (live_from (j + 1) keys)) (sym (shift j i)) ∙ in_live (j + 1) i keys n h
 in_live j zero (Some m ∷ keys) n h = ap (λ (b : Bool). b || among_ids (live_from (j + 1) keys) (j + 0)) (same_test (j + 0) j (omega arith))
 in_live j (suc i) (Some m ∷ keys) n h =
-    or_right (j + suc i == j) (among_ids (live_from (j + 1) keys) (j + suc i)) (ap (among_ids (live_from (j + 1) keys)) (sym (next_key j i)) ∙ in_live (j + 1) i keys n h)
+    or_right (j + suc i == j) (among_ids (live_from (j + 1) keys) (j + suc i)) (ap (among_ids (live_from (j + 1) keys)) (sym (shift j i)) ∙ in_live (j + 1) i keys n h)
 
 module _ (v : Seen) (since now n : ℕ) (sound : Sound v) where
   clock_each : (x : Entry) → IsLinked v.keys x → arrive_each (due_bits v since now) n (live_ids v.keys) x ≡ noted n (clock_bits v.files since now (place_of v.files (number_at v.keys x.desc))) x
@@ -198,11 +184,8 @@ module _ (v : Seen) (since now n : ℕ) (sound : Sound v) where
 instance_each : (v : Seen) (desc : DescId) (n : ℕ) → Sound v → IsSome (number_under v desc) → (x : Entry) → IsLinked v.keys x → raised_on desc (bits_of IN) n x ≡ noted n (when (number_of v desc == number_at v.keys x.desc) IN) x
 instance_each v desc n sound lives x link =
     let on : (number_at v.keys x.desc == number_of v desc) ≡ is_on desc x = same_keys v x.desc desc sound link.desc lives in
-    let turned : is_on desc x ≡ (number_of v desc == number_at v.keys x.desc) = sym on ∙ turn (number_at v.keys x.desc) (number_of v desc) in
+    let turned : is_on desc x ≡ (number_of v desc == number_at v.keys x.desc) = sym on ∙ test_turned (number_at v.keys x.desc) (number_of v desc) in
     ap (λ (b : Bool). cond b (noted n IN x) x) turned ∙ by_test (number_of v desc == number_at v.keys x.desc) where
-      turn : (a b : ℕ) → (a == b) ≡ (b == a)
-      turn a b = grind (arith, nat_tests)
-
       by_test : (b : Bool) → cond b (noted n IN x) x ≡ noted n (when b IN) x
       by_test true = refl
       by_test false = sym (zero_noted n x)

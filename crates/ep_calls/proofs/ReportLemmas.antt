@@ -1,16 +1,16 @@
 -- A wait of the machine and one of the kernel.
 use Rattle.std.proofs.Common.{min, unwrap_or, ◌||◌, ◌≡◌, ◌==◌, ◌&&◌, ◌<◌, ℕ, ℤ, zero, suc, pos, Bool, false, true, List, [], ◌∷◌, Option, Some, None, All, cond, filter, length, map, not, if◌then◌else◌, refl, ap, sym, ◌∙◌, arith}
 use Rattle.std.proofs.lemmas.Bool.{false≢true}
-use Rattle.std.proofs.lemmas.Bool.Decides.{nat_tests}
 use Rattle.std.proofs.lemmas.List.{length-map}
 use Rattle.std.proofs.lemmas.List.Elements.{All-cons, All-head, All-tail}
 use Rattle.std.specs.Option.{option_map}
 use Rattle.std.proofs.lemmas.Option.{none-some}
 use Rattle.std.specs.List.{cons_option, list_all, list_any}
+use Rattle.ep_facts.proofs.BoolFacts.{both_true}
+use Rattle.ep_facts.proofs.NatFacts.{from_test, same_nat, suc_is_not_zero}
 use Rattle.ep_base.specs.declared.answer.Report.{Report}
 use Rattle.ep_machine.specs.Readiness.{is_ready, is_reportable, reportables}
 use Rattle.ep_law.proofs.ReadinessLemmas.{ready_equation}
-use Rattle.ep_law.proofs.TestLemmas.{both_true, from_test, same_nat}
 use Rattle.ep_base.specs.declared.answer.Answer.TheVariants.{Events, Still}
 use Rattle.ep_base.specs.declared.ids.DescId.{DescId}
 use Rattle.ep_interest.specs.Registrations.{Registrations, numbered}
@@ -51,13 +51,10 @@ linked_noted keys n ks [] h = h
 linked_noted keys n ks (x ∷ xs) h =
     All-cons (IsLinked keys) (with_report n ks x) (map (with_report n ks) xs) (link_noted keys n (is_among ks x.number) x (All-head (IsLinked keys) x xs h)) (linked_noted keys n ks xs (All-tail (IsLinked keys) x xs h))
 
-not_zero : (n : ℕ) → (suc n == 0) ≡ false
-not_zero n = grind (arith, nat_tests)
-
 -- where nothing is chosen nothing is picked
 pub no_numbers : (xs : List Reportable) → (length xs == 0) ≡ true → numbers_of xs ≡ []
 no_numbers [] h = refl
-no_numbers (x ∷ xs) h = absurd (false≢true (sym (not_zero (length xs)) ∙ h))
+no_numbers (x ∷ xs) h = absurd (false≢true (sym (suc_is_not_zero (length xs)) ∙ h))
 
 -- Of a registration that is there the machine finds its own.
 pub find_kept : (s : State) (xs : List Watch) (k : ℕ) → view_of (kernel_watches s xs) k ≡ option_map (kernel_watch s) (find_watch xs k)
@@ -107,19 +104,19 @@ told_change s chosen = (Events (map report_of chosen), record s { watches = map 
 -- a report of nothing is no events
 none_told : (s : State) (xs : List Reportable) → (length xs == 0) ≡ true → (Events [], s, []) ≡ told_change s xs
 none_told s [] h = ap (λ (ws : List Watch). let c : Change = (Events [], record s { watches = ws }, []) in c) (sym (reported_none s s.watches))
-none_told s (x ∷ xs) h = absurd (false≢true (sym (not_zero (length xs)) ∙ h))
+none_told s (x ∷ xs) h = absurd (false≢true (sym (suc_is_not_zero (length xs)) ∙ h))
 
 pub any_found : (p : Watch → Bool) (xs : List Watch) → list_any p xs ≡ not (length (filter p xs) == 0)
 any_found p [] = ap not (sym (same_nat 0))
 any_found p (x ∷ xs) =
     let rest = any_found p xs in
-    elim (p x) as (λ b. (b || list_any p xs) ≡ not (length (cond b (x ∷ filter p xs) (filter p xs)) == 0)) [ true ↦ ap not (sym (not_zero (length (filter p xs)))) | false ↦ rest ]
+    elim (p x) as (λ b. (b || list_any p xs) ≡ not (length (cond b (x ∷ filter p xs) (filter p xs)) == 0)) [ true ↦ ap not (sym (suc_is_not_zero (length (filter p xs)))) | false ↦ rest ]
 
 both_none : (a b m : ℕ) → 0 < m → a ≡ min m b → (b == 0) ≡ (a == 0)
 both_none zero zero m some e = refl
 both_none (suc a) zero m some e = absurd (omega (arith, some, e))
 both_none zero (suc b) m some e = absurd (omega (arith, some, e))
-both_none (suc a) (suc b) m some e = not_zero b ∙ sym (not_zero a)
+both_none (suc a) (suc b) m some e = suc_is_not_zero b ∙ sym (suc_is_not_zero a)
 
 module _ {ws : List Waiter} (v : Seen) (now : ℕ) (r : Registrations) (s : State) (instance : DescId) (most : ℕ) (chosen : List Reportable)
     (legal : is_legal (links s) ≡ true) (stands : Stands v r ws now s) (keyed : AreKeyed v now r chosen) (pick : IsPick v instance most chosen s) where

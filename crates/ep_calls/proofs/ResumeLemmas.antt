@@ -27,10 +27,6 @@ use Rattle.ep_calls.proofs.OutcomeLemmas.{goes_made, goes_refused}
 use Rattle.ep_calls.proofs.ReportLemmas.{told_change, after, no_numbers, resumes, resumes_due}
 use Rattle.ep_table.specs.Value.{Seen}
 
-pub is_off : (b : Bool) → not b ≡ true → b ≡ false
-is_off true h = sym h
-is_off false h = refl
-
 module _ (g : List Link) (v : Seen) (r : Registrations) (ws : List Waiter) (now caller : ℕ) (limits : Limits) (s : State) (stands : Stands v r ws now s) where
   abbrev number : ℕ → ℕ
   number k = number_at v.keys (record { 0 = k })

@@ -145,6 +145,11 @@ pub record IsFound (r : Registrations) (named : Named) (fd : Fd) (found : Option
   pub key : IfSome found (λ id. IsSome (number_of_entry r id))
   pub entry : IfSome found (λ id. numbered r.entries (unwrap_or (number_of_entry r id) 0) ≡ first_where (has_key named.instance fd named.desc) r.entries)
 
+-- the key of a registration that was there, after a call that is done: DEL takes it away
+abbrev pub key_left : Operation → EntryId → Option EntryId
+key_left Delete id = None
+key_left operation id = Some id
+
 -- what a call is about that is not refused by its arguments alone
 pub record IsPlan (p : Parts) (pid : ℕ) (args : Control) (plan : Plan) : Type 0 where
   pub names : Names p.tables pid args.epfd.0 args.fd.0 plan.named

@@ -2,19 +2,20 @@
 ghost use Rattle.std.specs.Prelude.{All, Bool, ◌≡◌, ◌≢◌, ◌==◌, ◌+◌, ◌++◌, ◌∷◌, ◌≤◌, ◌||◌, ℕ, [], if◌then◌else◌, IfErr, IfNone, IfOk, IfSome, IsOk, IsSome, MatchResult, None, OnErr, Some, false, length, not, true, unwrap_or};
 ghost use Rattle.std.specs.List.{list_any};
 ghost use Rattle.ep_base.specs.Answer.{FitsInline};
+ghost use Rattle.ep_base.specs.declared.answer.Answer.TheVariants.{Done};
 ghost use Rattle.ep_machine.specs.Bits.{exclusive_bits, has_only};
 ghost use Rattle.ep_machine.specs.Effect.{first};
 ghost use Rattle.ep_calls.specs.Acts.{is_no_memory};
 ghost use Rattle.ep_machine.specs.Watches.{is_add, is_legal, is_mod};
 ghost use Rattle.ep_nest.specs.Links.{edges, without};
 ghost use Rattle.ep_calls.specs.Climb.{AreNested, KeepsLinks, is_nested_key};
-ghost use Rattle.ep_calls.specs.Control.{Alters, ChangesIf, Controls, EntersAt, IsBelow, IsPlan, Names, TellsBelow, addition, code_of, control_call, is_deep_at, is_done, is_exclusive_at, is_refused_exclusive, is_refused_op, raising_of_ctl, naming_refusals, next_entry, next_link, raising_after, room_refusals};
+ghost use Rattle.ep_calls.specs.Control.{Alters, ChangesIf, Controls, EntersAt, IsBelow, IsFound, IsPlan, Names, TellsBelow, addition, code_of, control_call, is_deep_at, is_done, is_exclusive_at, is_refused_exclusive, is_refused_op, key_left, raising_of_ctl, naming_refusals, next_entry, next_link, raising_after, room_refusals};
 ghost use Rattle.ep_calls.specs.Last.{NothingRefusesCall};
 ghost use Rattle.ep_interest.specs.Registrations.{GainsKey, has_key, number_under as number_of_entry};
 ghost use Rattle.ep_calls.specs.Does.{DoesCall};
 ghost use Rattle.ep_calls.specs.Stands.{AreLinked};
 ghost use Rattle.ep_calls.specs.declared.control.Named.{Named};
-ghost use Rattle.ep_calls.specs.declared.control.Operation.TheVariants.{Add};
+ghost use Rattle.ep_calls.specs.declared.control.Operation.TheVariants.{Add, Delete};
 ghost use Rattle.ep_calls.specs.declared.raising.Raising.TheVariants.{Nowhere};
 ghost use Rattle.ep_table.specs.Value.{number_under};
 
@@ -366,56 +367,68 @@ fn enter(
     Ok(Answer::Done)
 }
 
-/// What it raises that a registration was added or modified: IN at its instance, if it is reportable. `below` says
-/// whether its target is an instance that is ready.
-fn look_at(
-    tables: &Tables,
-    now: Moment,
-    interest: &Interest,
+/// A registration after a call on it.
+#[derive(Clone, Copy)]
+struct Left {
+    /// What the descriptors of the call name.
     named: Named,
+    /// The descriptor that is watched.
     fd: Fd,
+    /// Its key; `None` if it is gone.
+    id: Option<EntryId>,
+    /// Whether its target is an instance that is ready.
     below: bool,
-) -> Raising
+}
+
+/// What it raises that a registration was added or modified: IN at its instance, if it is reportable.
+fn look_at(tables: &Tables, now: Moment, interest: &Interest, left: Left) -> Raising
     requires linked { AreLinked tables.now interest.now }
-    requires below { IsBelow below tables.now now interest.now named fd }
-    ensures { result ≡ raising_of_ctl tables.now now interest.now named fd }
+    requires found { IsFound interest.now left.named left.fd left.id }
+    requires below { IsBelow left.below tables.now now interest.now left.named left.fd }
+    ensures { result ≡ raising_of_ctl tables.now now interest.now left.named left.fd }
 {
     interest.known();
-    let Some(id) = interest.find(named.instance, fd, named.desc) else {
+    let Some(id) = left.id else {
         return Raising::Nowhere;
     };
     let entry = interest.entry(id);
-    if !is_reportable(entry, shown_at(tables, now, entry, below)) {
+    if !is_reportable(entry, shown_at(tables, now, entry, left.below)) {
         return Raising::Nowhere;
     }
     Raising::Instance {
-        desc: named.instance,
+        desc: left.named.instance,
+    }
+}
+
+/// The key of a registration after a call on it is done: a DEL takes it away.
+fn key_left(operation: Operation, id: EntryId) -> Option<EntryId>
+    ensures { result ≡ key_left operation id }
+{
+    match operation {
+        Operation::Delete => None,
+        Operation::Add | Operation::Modify => Some(id),
     }
 }
 
 impl Parts {
-    /// What epoll_ctl comes to with an answer: if it is done, the registration is looked at.
+    /// What epoll_ctl comes to with an answer: if it is done, the registration that is left is looked at.
     #[inline(always)]
-    fn controlled(&self, plan: Plan, fd: Fd, answer: Answer) -> Outcome
+    fn controlled(&self, left: Left, answer: Answer) -> Outcome
         requires inline { FitsInline answer }
         requires real { is_no_memory answer ≡ false }
+        requires found { is_done answer ≡ true
+            → IsFound self.now.interest left.named left.fd left.id }
         requires below { is_done answer ≡ true
-            → IsBelow plan.below self.now.tables self.now.clock self.now.interest plan.named fd }
+            → IsBelow left.below self.now.tables self.now.clock self.now.interest left.named
+            left.fd }
         ensures answer { result.answer ≡ answer }
         ensures picked { result.picked ≡ [] }
         ensures raising { result.raising
-            ≡ raising_after answer self.now.tables self.now.clock self.now.interest plan.named
-            fd }
+            ≡ raising_after answer self.now.tables self.now.clock self.now.interest left.named
+            left.fd }
     {
         let raising = match answer {
-            Answer::Done => look_at(
-                &self.tables,
-                self.clock,
-                &self.interest,
-                plan.named,
-                fd,
-                plan.below,
-            ),
+            Answer::Done => look_at(&self.tables, self.clock, &self.interest, left),
             _ => Raising::Nowhere,
         };
         Outcome::settled(self.alloc, answer, raising)
@@ -432,6 +445,7 @@ impl Parts {
         ensures err { IfErr result
             (λ outcome. (n caller : ℕ)
             → DoesCall n caller pid.0 (control_call args) outcome self.now self.now) }
+        ensures refused { IfErr result (λ outcome. is_done outcome.answer ≡ false) }
         ensures picked { IfErr result (λ outcome. outcome.picked ≡ []) }
         ensures raising { IfErr result (λ outcome. outcome.raising ≡ Nowhere) }
     {
@@ -466,6 +480,8 @@ impl Parts {
             (λ outcome. (n caller : ℕ)
             → DoesCall n caller pid.0 (control_call args) outcome self.old self.new) }
         ensures controls { IfOk result (λ outcome. Controls plan args outcome self.old self.new) }
+        ensures deletes { plan.operation ≡ Delete → IsSome plan.found
+            → IfOk result (λ outcome. outcome.answer ≡ Done) }
         ensures last { OnErr result (NothingRefusesCall self.old pid.0 (control_call args)) }
         ensures room { plan.operation ≡ Add → plan.has_room ≡ false → self.new ≡ self.old }
         ensures added { plan.operation ≢ Add
@@ -475,20 +491,37 @@ impl Parts {
     {
         self.tables.known();
         self.interest.known();
+        let Plan {
+            named,
+            operation,
+            below,
+            ..
+        } = plan;
+        let fd = args.fd;
         match plan.found {
-            Some(id) => {
+            Some(key) => {
+                let id = key_left(operation, key);
                 let answer = alter(
                     &self.tables,
                     &mut self.interest,
                     &mut self.graph,
-                    id,
-                    plan.operation,
+                    key,
+                    operation,
                     args,
                 );
                 self.graph.known();
-                Ok(self.controlled(plan, args.fd, answer))
+                Ok(self.controlled(
+                    Left {
+                        named,
+                        fd,
+                        id,
+                        below,
+                    },
+                    answer,
+                ))
             }
             None => {
+                let id = Some(self.interest.next_key());
                 let answer = enter(
                     &self.tables,
                     &mut self.interest,
@@ -497,7 +530,15 @@ impl Parts {
                     args,
                 )?;
                 self.graph.known();
-                Ok(self.controlled(plan, args.fd, answer))
+                Ok(self.controlled(
+                    Left {
+                        named,
+                        fd,
+                        id,
+                        below,
+                    },
+                    answer,
+                ))
             }
         }
     }

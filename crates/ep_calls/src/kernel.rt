@@ -13,6 +13,7 @@ ghost use Rattle.ep_calls.specs.KeptRecords.{KeepsRecord};
 ghost use Rattle.ep_calls.specs.Spared.{IsSpared};
 
 use ep_base::{Answer, CallerId, Event, Limits, Moment, Record};
+use ep_records::History;
 use std::alloc::AllocError;
 
 /// A kernel that processes make calls on. Each event is one step of the abstract machine
@@ -78,9 +79,9 @@ pub trait Kernel {
         ensures history { past self.new ≡ past self.old };
 
     /// The records of all steps, in order: a run of the machine that leads to the present state.
-    fn history(&self) -> &[Record]
-        ensures past { result.now ≡ past self.now }
-        ensures replays { run (bounds self.now) opening result.now ≡ Some (state self.now) };
+    fn history(&self) -> &History
+        ensures past { result.now.items ≡ past self.now }
+        ensures replays { run (bounds self.now) opening result.now.items ≡ Some (state self.now) };
 
     /// The limits that the kernel was made with.
     fn limits(&self) -> &Limits

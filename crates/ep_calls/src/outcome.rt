@@ -1,5 +1,5 @@
 //! What an event came to.
-ghost use Rattle.std.specs.Prelude.{◌≡◌, [], None, false, true};
+ghost use Rattle.std.specs.Prelude.{◌≡◌, ◌+◌, ◌<◌, ◌≤◌, ◌++◌, ◌∷◌, [], None, false, true};
 ghost use Rattle.std.specs.Option.{ForSome};
 ghost use Rattle.ep_base.specs.Answer.{FitsInline};
 ghost use Rattle.ep_base.specs.declared.answer.Answer.TheVariants.{Refused as refused};
@@ -11,6 +11,7 @@ use crate::copies::Copies;
 use crate::raising::Raising;
 use crate::spare::Spare;
 use ep_base::{Answer, CallerId, Errno, Event, Picked, Record};
+use ep_records::History;
 use std::alloc::Global;
 
 /// What an event came to: its answer, which is never want of memory, the registrations that it reports, and what it
@@ -80,24 +81,86 @@ impl Outcome {
         }
     }
 
-    /// The answer, what a second record of the event is made of if one is asked for, and the event's record.
+    /// Puts the record of the event at the end of a history that has room for it, and hands the answer on, with what a
+    /// second record is made of if one is asked for. It takes no memory. A short record copies no part of the outcome.
     #[inline(always)]
-    pub fn into_record(
+    pub fn put_record(
         self,
+        history: &mut History,
         caller: CallerId,
         event: Event,
         kept: bool,
-    ) -> (Answer, Option<Spare>, Record)
-        requires { kept ≡ true → spare_in self.copies ≡ None → IsInline self.answer self.picked }
+    ) -> (Answer, Option<Spare>)
+        requires inline { kept ≡ true → spare_in self.copies ≡ None
+            → IsInline self.answer self.picked }
+        requires room { 0 < history.old.room }
         ensures answer { result.0 ≡ self.answer }
         ensures spare { kept ≡ true → HasCopy result.1 self.answer self.picked }
-        ensures record { result.2
-            ≡ record {
-              caller = caller;
-              event = event;
-              answer = self.answer;
-              picked = self.picked;
-            } }
+        ensures items { history.new.items ≡ history.old.items ++ record {
+          caller = caller;
+          event = event;
+          answer = self.answer;
+          picked = self.picked;
+        } ∷ [] }
+        ensures room { history.old.room ≤ history.new.room + 1 }
+    {
+        if kept {
+            let (answer, spare) = self.put_twice(history, caller, event);
+            return (answer, Some(spare));
+        }
+        if history.push_short(caller, &event, &self.answer, self.picked.as_slice()) {
+            return (self.answer, None);
+        }
+        (self.put_long(history, caller, event), None)
+    }
+
+    /// The same of a record that isn't short, if no second one is asked for.
+    #[inline(never)]
+    fn put_long(self, history: &mut History, caller: CallerId, event: Event) -> Answer
+        requires { 0 < history.old.room }
+        ensures answer { result ≡ self.answer }
+        ensures items { history.new.items ≡ history.old.items ++ record {
+          caller = caller;
+          event = event;
+          answer = self.answer;
+          picked = self.picked;
+        } ∷ [] }
+        ensures room { history.old.room ≤ history.new.room + 1 }
+    {
+        let Outcome {
+            answer,
+            picked,
+            copies,
+            ..
+        } = self;
+        let recorded = match copies {
+            None => answer.copy().unwrap(),
+            Some(made) => Box::into_inner(made).recorded,
+        };
+        history.push_long(Record {
+            caller,
+            event,
+            answer: recorded,
+            picked,
+        });
+        answer
+    }
+
+    /// The same if a second record is asked for.
+    #[inline(never)]
+    fn put_twice(self, history: &mut History, caller: CallerId, event: Event) -> (Answer, Spare)
+        requires inline { spare_in self.copies ≡ None → IsInline self.answer self.picked }
+        requires room { 0 < history.old.room }
+        ensures answer { result.0 ≡ self.answer }
+        ensures spare { result.1.answer ≡ self.answer }
+        ensures picked { result.1.picked ≡ self.picked }
+        ensures items { history.new.items ≡ history.old.items ++ record {
+          caller = caller;
+          event = event;
+          answer = self.answer;
+          picked = self.picked;
+        } ∷ [] }
+        ensures room { history.old.room ≤ history.new.room + 1 }
     {
         let Outcome {
             answer,
@@ -112,13 +175,13 @@ impl Outcome {
                 (recorded, spare)
             }
         };
-        let spare = Spare::of(kept, spare, &answer, &picked);
-        let record = Record {
+        let spare = Spare::of(spare, &answer, &picked);
+        history.push_reserved(Record {
             caller,
             event,
             answer: recorded,
             picked,
-        };
-        (answer, spare, record)
+        });
+        (answer, spare)
     }
 }

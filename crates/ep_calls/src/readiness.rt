@@ -10,8 +10,8 @@ use ep_base::{DescId, Mask, Moment};
 use ep_interest::Entry;
 use ep_table::Tables;
 
-/// The bits that hold at a description. `below`: whether it is an instance that is ready.
-fn present(tables: &Tables, now: Moment, desc: DescId, below: bool) -> Mask
+/// The bits that hold at a description, asked for or not. `below`: whether it is an instance that is ready.
+pub fn present(tables: &Tables, now: Moment, desc: DescId, below: bool) -> Mask
     requires live { IsSome (number_under tables.now desc) }
     ensures { result.0 ≡ present_over below tables.now now desc }
 {

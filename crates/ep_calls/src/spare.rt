@@ -1,6 +1,6 @@
 //! Copies for a second record.
-ghost use Rattle.std.specs.Prelude.{◌≡◌, None, true};
-ghost use Rattle.ep_calls.specs.KeptRecords.{HasCopy, IsCopied, IsInline};
+ghost use Rattle.std.specs.Prelude.{◌≡◌, None};
+ghost use Rattle.ep_calls.specs.KeptRecords.{IsCopied, IsInline};
 
 use ep_base::{Answer, Picked};
 
@@ -14,22 +14,20 @@ pub struct Spare {
 }
 
 impl Spare {
-    /// The copies of an answer and of the numbers that it reports, if they are asked for: those that were made, or
-    /// else new ones, which take no memory.
-    pub fn of(kept: bool, made: Option<Spare>, answer: &Answer, picked: &Picked) -> Option<Spare>
-        requires inline { kept ≡ true → made ≡ None → IsInline answer.now picked.now }
+    /// The copies of an answer and of the numbers that it reports: those that were made, or else new ones, which take
+    /// no memory.
+    pub fn of(made: Option<Spare>, answer: &Answer, picked: &Picked) -> Spare
+        requires inline { made ≡ None → IsInline answer.now picked.now }
         requires copied { IsCopied made answer.now picked.now }
-        ensures { kept ≡ true → HasCopy result answer.now picked.now }
+        ensures answer { result.answer ≡ answer.now }
+        ensures picked { result.picked ≡ picked.now }
     {
-        if !kept {
-            return None;
-        }
         match made {
-            Some(spare) => Some(spare),
-            None => Some(Spare {
+            Some(spare) => spare,
+            None => Spare {
                 answer: answer.copy().unwrap(),
                 picked: picked.copy().unwrap(),
-            }),
+            },
         }
     }
 }

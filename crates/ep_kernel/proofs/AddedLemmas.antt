@@ -4,6 +4,10 @@ use Rattle.ep_calls.proofs.EntryLemmas.{holds_under}
 use Rattle.std.proofs.Common.{◌≡◌, ◌∙◌, ◌+◌, ◌==◌, ◌&&◌, ◌⊎◌, ℕ, true, false, IsSome, List, [], None, Option, Some, ap, filter, inl, inr, length, nat_lt, refl, subst, sym, unwrap_or}
 use Rattle.std.specs.Prelude.{MatchOption}
 use Rattle.std.proofs.lemmas.Bool.{false≢true}
+use Rattle.std.proofs.lemmas.Option.{none-some}
+use Rattle.ep_facts.proofs.NatFacts.{same_test}
+use Rattle.ep_facts.proofs.AmongFacts.{among_append}
+use Rattle.ep_facts.proofs.BoolFacts.{both_true, or_cases}
 use Rattle.ep_base.specs.declared.call.Call.TheVariants.{EpollCtl}
 use Rattle.ep_base.specs.declared.call.Event.{Event}
 use Rattle.ep_base.specs.declared.call.Event.TheVariants.{Call as CallOf}
@@ -28,7 +32,7 @@ use Rattle.ep_kernel.proofs.JoinLemmas.{Follows, leaves, loses, old_number, plac
 use Rattle.ep_kernel.proofs.NextLemmas.{goes, keeps_after, runs_next, stands_after, to_state}
 use Rattle.ep_kernel.proofs.NumberLemmas.{among_numbers, entry_at, number_member}
 use Rattle.ep_kernel.proofs.ReadyBookLemmas.{complete_listed, listed_by, listed_of, number_is, sound_listed}
-use Rattle.ep_kernel.proofs.SurvivalLemmas.{climb, climbed_back, left_back, or_cases, stood}
+use Rattle.ep_kernel.proofs.SurvivalLemmas.{climb, climbed_back, left_back, stood}
 use Rattle.ep_kernel.proofs.ViewLemmas.{Views, entry_views, view_member}
 use Rattle.ep_kernel.proofs.WaitedLemmas.{ready_in, rest_files, rest_passes}
 use Rattle.ep_kernel.specs.Listed.{IsListed, key_shows, lists_of, order_at, shows_found}
@@ -36,9 +40,8 @@ use Rattle.ep_kernel.specs.Push.{comes_in, is_home}
 use Rattle.ep_kernel.specs.ReadyBook.{AreAdded, IsAdded, MayBeListed, list_of}
 use Rattle.ep_kernel.specs.Running.{Runs}
 use Rattle.ep_kernel.specs.Turns.{IsAlteredKey}
-use Rattle.ep_law.proofs.ListLemmas.{among, among_member, among_split, filtered_member, one_number}
+use Rattle.ep_law.proofs.ListLemmas.{among, among_member, filtered_member, one_number}
 use Rattle.ep_law.proofs.StepLemmas.{after_first, change_counted, change_n, refused_step, step_changed}
-use Rattle.ep_law.proofs.TestLemmas.{both_true, same_test}
 use Rattle.ep_law.specs.Laws.{Member, is_reportable_in, passes_on_of}
 use Rattle.ep_machine.specs.Deaths.{buried as buried_of}
 use Rattle.ep_machine.specs.Effect.{first}
@@ -55,7 +58,8 @@ use Rattle.ep_machine.specs.Watches.{number_in}
 use Rattle.ep_order.specs.Event.{IsAltered, ListsGoOn, end_of}
 use Rattle.ep_order.specs.Order.{Turns}
 use Rattle.ep_order.proofs.EventLemmas.{beginning_keeps_turns}
-use Rattle.ep_ready.specs.ReadyLists.{Lists, entry_id, instance_at, list_at}
+use Rattle.ep_rings.specs.KeyWalk.{entry_id}
+use Rattle.ep_ready.specs.ReadyLists.{Lists, instance_at, list_at}
 use Rattle.ep_table.specs.Value.{number_under as desc_number}
 use Rattle.ep_view.proofs.AtRestLemmas.{quiet_begun, quiet_change, weaken}
 use Rattle.ep_view.proofs.KernelViewLemmas.{reportable_kept}
@@ -63,9 +67,6 @@ use Rattle.ep_view.proofs.SettleLemmas.{settle_remains}
 use Rattle.ep_view.specs.AtRest.{Changed, Remains}
 use Rattle.ep_view.specs.KernelView.{KernelWatch, kernel_watch, ready_now, shows}
 use Rattle.ep_law.specs.Sound.{Sound}
-
-none_some : (n : ℕ) → None ≡ Some n → ⊥
-none_some n h = absurd (cc)
 
 -- Registrations that differ in nothing that is asked.
 passes_same : (c : Change) (x w : Watch) → x.armed ≡ w.armed → x.mask ≡ w.mask → x.target ≡ w.target → passes_on_of c x ≡ passes_on_of c w
@@ -129,7 +130,7 @@ module _ (n : ℕ) (event : Event) (outcome : Outcome) (old mid noted buried cli
       let after = (is_under climbed.interest (entry_id k) y under).number in
       let number : number_under old.interest (entry_id k) ≡ Some y.number = elim (old_number n event outcome old mid noted buried climbed new l0 l1 l2 l3 follows k y.number after) [
         | inl same ↦ same
-        | inr none ↦ absurd (none_some x.0.number (sym none.0 ∙ before))
+        | inr none ↦ absurd (none-some x.0.number (sym none.0 ∙ before))
       ] in
       let u = under_key old.tables.keys i some in
       let instance : number_at old.tables.keys i ≡ e =
@@ -161,7 +162,7 @@ module _ (n : ℕ) (event : Event) (outcome : Outcome) (old mid noted buried cli
           | inl stood_there ↦
               let turned = stood n outcome.raising mid noted.interest buried (leaves n event outcome old mid noted buried climbed new l0 l1 l2 l3 follows) l1 l2 (loses n event outcome old mid noted buried climbed new l0 l1 l2 l3 follows) follows.turns.places i.0 k stood_there in
               let kept = filter follows.turns.keeps (list_at l0 i.0) in
-              let split = sym (among_split kept (follows.turns.more i.0) k) ∙ (ap (λ (ks : List ℕ). is_among ks k) (sym (follows.turns.lists i.0)) ∙ turned) in
+              let split = sym (among_append kept (follows.turns.more i.0) k) ∙ (ap (λ (ks : List ℕ). is_among ks k) (sym (follows.turns.lists i.0)) ∙ turned) in
               elim (or_cases (is_among kept k) (is_among (follows.turns.more i.0) k) split) [
                 | inl kept_there ↦ absurd (not_before (among k (list_at l0 i.0) (filtered_member follows.turns.keeps (list_at l0 i.0) k (among_member kept k kept_there))))
                 | inr behind ↦ elim (follows.turns.comes i.0 k behind) [ inl stood_first ↦ absurd (not_before stood_first) | inr altered ↦ inr altered ]

@@ -1,7 +1,10 @@
 -- The registration that an epoll_ctl adds or modifies, by its keys.
 use Rattle.ep_calls.proofs.EntryLemmas.{holds_under}
-use Rattle.std.proofs.Common.{◌≡◌, ◌∙◌, ◌==◌, ◌&&◌, ℕ, ℤ, true, false, IsSome, None, Option, Some, ap, is_none, negsuc, pos, refl, slice_index_or, sym, unwrap_or}
+use Rattle.std.proofs.Common.{◌≡◌, ◌∙◌, ◌==◌, ◌&&◌, ℕ, ℤ, true, false, IsSome, None, Option, Some, ap, negsuc, pos, refl, slice_index_or, sym, unwrap_or}
 use Rattle.std.proofs.lemmas.Bool.{false≢true}
+use Rattle.ep_facts.proofs.NatFacts.{from_test}
+use Rattle.ep_facts.proofs.BoolFacts.{both_true}
+use Rattle.ep_facts.proofs.OptionFacts.{number_unless_none}
 use Rattle.ep_base.specs.Limits.{Limits}
 use Rattle.ep_base.specs.declared.call.Call.TheVariants.{EpollCtl}
 use Rattle.ep_base.specs.declared.call.Event.{Event}
@@ -14,7 +17,6 @@ use Rattle.ep_interest.specs.Registrations.{entry_under}
 use Rattle.ep_interest.specs.declared.entry.Entry.{Entry}
 use Rattle.ep_kernel.specs.Listed.{key_shows}
 use Rattle.ep_kernel.specs.Turns.{AlteredStand}
-use Rattle.ep_law.proofs.TestLemmas.{both_true, from_test}
 use Rattle.ep_machine.specs.Effect.{first}
 use Rattle.ep_machine.specs.Files.{Files, named_by, names_nothing, under}
 use Rattle.ep_machine.specs.Refusal.{refusals}
@@ -22,13 +24,10 @@ use Rattle.ep_machine.specs.State.{State, Watch}
 use Rattle.ep_machine.specs.Step.{next_event}
 use Rattle.ep_machine.specs.Watches.{number_in}
 use Rattle.ep_order.specs.Event.{IsAltered}
-use Rattle.ep_ready.specs.ReadyLists.{Lists, entry_id, stands}
+use Rattle.ep_rings.specs.KeyWalk.{entry_id}
+use Rattle.ep_ready.specs.ReadyLists.{Lists, stands}
 use Rattle.ep_table.specs.Value.{Sound as SoundTables, number_under as desc_number}
 use Rattle.ep_view.proofs.AtRestLemmas.{none_holds}
-
-some_named : (o : Option ℕ) → is_none o ≡ false → o ≡ Some (unwrap_or o 0)
-some_named None h = absurd (false≢true (sym h))
-some_named (Some d) h = refl
 
 -- a number that names something is not negative
 descriptor_of : (files : Files) (p : ℕ) (fd : ℤ) → names_nothing files p fd ≡ false → fd ≡ pos (number_in fd)
@@ -51,7 +50,7 @@ module _ (old mid : Parts) (keys : KeepsKeys old.tables mid.tables) (tables : So
   named_key : (p : ℕ) (fd : ℤ) (key : DescId) → names_nothing old.tables.files p fd ≡ false → IsSome (desc_number mid.tables key) → number_at mid.tables.keys key ≡ named_by old.tables.files p fd → number_at old.tables.keys key ≡ named_by old.tables.files p fd
   named_key p fd key names lives is =
       let d = named_by old.tables.files p fd in
-      let other = tables.named p d fd (some_named (under old.tables.files p fd) names) in
+      let other = tables.named p d fd (number_unless_none (under old.tables.files p fd) names) in
       let u = under_key mid.tables.keys key lives in
       let here : desc_number mid.tables key ≡ Some d = u.is ∙ ap (λ (m : ℕ). Some m) (sym (ap (λ (o : Option ℕ). unwrap_or o 0) u.is) ∙ is) in
       let same : key.0 ≡ other.0.0 = tables_mid.one key other.0 d here (keys other.0 d other.1) in

@@ -2,6 +2,8 @@
 use Rattle.ep_law.proofs.GraphLemmas.{member_of_map}
 use Rattle.std.proofs.Common.{◌≡◌, ◌∙◌, ◌==◌, ◌&&◌, ℕ, Bool, true, false, List, Option, Some, ap, filter, if◌then◌else◌, inl, inr, map, nat_lt, subst, sym, unwrap_or}
 use Rattle.std.proofs.lemmas.Bool.{false≢true}
+use Rattle.ep_facts.proofs.NatFacts.{from_test, same_nat}
+use Rattle.ep_facts.proofs.BoolFacts.{both_true, or_cases, or_left, or_right}
 use Rattle.ep_calls.specs.Climb.{is_nested, link_of}
 use Rattle.ep_calls.specs.Moves.{StandFor}
 use Rattle.ep_calls.specs.Parts.{AreCoherent, Parts}
@@ -13,12 +15,10 @@ use Rattle.ep_interest.specs.Registrations.{Registrations, entry_under, ids, is_
 use Rattle.ep_interest.specs.declared.entry.Entry.{Entry}
 use Rattle.ep_calls.proofs.PassLemmas.{by_machine, kept_watches, noted_watch, passes_is}
 use Rattle.ep_calls.specs.Ends.{Leaves}
-use Rattle.ep_kernel.proofs.SurvivalLemmas.{or_cases}
 use Rattle.ep_kernel.proofs.ViewLemmas.{among_ids, entry_views, view_member}
 use Rattle.ep_kernel.specs.Listed.{may_stand}
 use Rattle.ep_kernel.specs.Push.{comes_by, comes_in, passes_found}
 use Rattle.ep_law.proofs.ListLemmas.{any_member, filtered_passes}
-use Rattle.ep_law.proofs.TestLemmas.{both_true, from_test, or_left, or_right, same_nat}
 use Rattle.ep_law.specs.Laws.{Member, passes_on_of}
 use Rattle.ep_machine.specs.Bits.{IN, asked}
 use Rattle.ep_machine.specs.Deaths.{buried as buried_of}
@@ -29,7 +29,7 @@ use Rattle.ep_machine.specs.Spread.{raised_of}
 use Rattle.ep_machine.specs.State.{Change, State, Watch}
 use Rattle.ep_nest.specs.declared.link.Link.{Link}
 use Rattle.ep_calls.specs.Climb.{is_reached_key}
-use Rattle.ep_ready.specs.ReadyLists.{entry_id}
+use Rattle.ep_rings.specs.KeyWalk.{entry_id}
 use Rattle.ep_view.specs.AtRest.{Changed, Remains}
 use Rattle.ep_view.specs.KernelView.{KernelWatch, carries, freshened, kernel_watch, kernel_watches, reached_now, watches_instance}
 

@@ -1,27 +1,15 @@
 -- Answers of instances that are noted, and forgotten.
-use Rattle.std.proofs.Common.{◌≡◌, ◌∙◌, ◌++◌, ◌==◌, ◌||◌, ◌⊎◌, ℕ, Bool, true, false, List, [], ◌∷◌, None, Option, Some, ap, if◌then◌else◌, inl, inr, nat_lt, refl, subst, sym, unwrap_or}
+use Rattle.std.proofs.Common.{◌≡◌, ◌∙◌, ◌++◌, ◌⊎◌, ℕ, Bool, true, false, List, [], ◌∷◌, None, Option, Some, ap, if◌then◌else◌, inl, inr, nat_lt, refl, subst, sym, unwrap_or}
 use Rattle.std.proofs.lemmas.Bool.{cases_Bool, false≢true}
+use Rattle.ep_facts.proofs.AmongFacts.{among_push}
 use Rattle.ep_calls.specs.Parking.{ready_key}
 use Rattle.ep_calls.specs.Parts.{Parts}
 use Rattle.ep_kernel.specs.Asked.{AreOf, Knows, answer_of, noted}
 use Rattle.ep_kernel.specs.Listed.{HopesFor}
 use Rattle.ep_kernel.specs.declared.asked.Asked.{Asked}
-use Rattle.ep_law.proofs.ListLemmas.{among_split}
-use Rattle.ep_law.proofs.TestLemmas.{from_test}
 use Rattle.ep_machine.specs.Lists.{is_among}
 use Rattle.ep_ready.specs.ReadyLists.{Lists}
-use Rattle.ep_ready.specs.Walk.{Walk, with_noted}
-
-or_none : (b : Bool) → (b || false) ≡ true → b ≡ true
-or_none true h = refl
-or_none false h = h
-
--- of a list with one more
-either_end : (xs : List ℕ) (i j : ℕ) → is_among (xs ++ i ∷ []) j ≡ true → (is_among xs j ≡ true) ⊎ (j ≡ i)
-either_end xs i j t = elim (cases_Bool (is_among xs j)) [
-  | inl here ↦ inl here
-  | inr other ↦ inr (from_test j i (or_none (j == i) (sym (among_split xs (i ∷ []) j ∙ ap (λ (b : Bool). b || (j == i || false)) other) ∙ t)))
-]
+use Rattle.ep_walk.specs.Walk.{Walk, with_noted}
 
 -- what is noted was so before, or it is the one
 noted_one : (w : Walk) (i j : ℕ) → is_among (with_noted w i).reached j ≡ true → (is_among w.reached j ≡ true) ⊎ (j ≡ i)
@@ -29,7 +17,7 @@ noted_one w i j t = by (nat_lt i w.room) (is_among w.reached i) t where
   by : (a b : Bool) → is_among (if a then (if b then w else record w { reached = w.reached ++ i ∷ [] }) else w).reached j ≡ true → (is_among w.reached j ≡ true) ⊎ (j ≡ i)
   by false b h = inl h
   by true true h = inl h
-  by true false h = either_end w.reached i j h
+  by true false h = among_push w.reached i j h
 
 module _ (test : ℕ → Bool) (a : Asked) where
   pub answered : (i : ℕ) (b : Bool) → AreOf test a → answer_of a i ≡ Some b → b ≡ test i

@@ -1,13 +1,12 @@
 -- Going along a ready list.
-use Rattle.std.proofs.Common.{◌≡◌, ◌≤◌, ◌<◌, ◌++◌, ◌∙◌, ◌+◌, ◌⊎◌, ℕ, Bool, true, false, List, [], ◌∷◌, ap, append-nil, arith, cond, filter, length, refl, subst, sym, take}
+use Rattle.std.proofs.Common.{◌≡◌, ◌≤◌, ◌<◌, ◌++◌, ◌∙◌, ◌+◌, ℕ, Bool, true, false, List, [], ◌∷◌, ap, append-nil, arith, cond, filter, length, refl, subst, sym}
 use Rattle.std.proofs.lemmas.List.{append_assoc, length-append, map-append}
 use Rattle.std.proofs.lemmas.List.Elements.{All-append, All-cons, All-nil, filter-append}
-use Rattle.std.proofs.Math.Seq.{take-append_seam}
 use Rattle.ep_base.specs.declared.ids.EntryId.{EntryId}
 use Rattle.ep_calls.specs.Parts.{Parts}
 use Rattle.ep_calls.specs.Wait.{AreKeyed, IsKeyed}
 use Rattle.ep_calls.specs.declared.wait.Reportable.{Reportable}
-use Rattle.ep_kernel.specs.Choose.{IsFound, keys_of}
+use Rattle.ep_kernel.specs.Choose.{keys_of}
 use Rattle.ep_kernel.specs.Listed.{key_shows}
 use Rattle.ep_ready.specs.ReadyLists.{ids}
 

@@ -3,6 +3,8 @@ use Rattle.ep_law.proofs.GraphLemmas.{member_of_map}
 use Rattle.std.proofs.Common.{◌≡◌, ◌∙◌, ◌&&◌, ◌||◌, ℕ, Bool, true, List, None, Option, Some, ap, filter, is_some, refl, subst, sym}
 use Rattle.std.specs.List.{list_any}
 use Rattle.std.proofs.lemmas.Bool.{false≢true}
+use Rattle.ep_facts.proofs.NatFacts.{from_test, same_nat}
+use Rattle.ep_facts.proofs.BoolFacts.{both_true, same_bools}
 use Rattle.ep_base.specs.declared.ids.DescId.{DescId}
 use Rattle.ep_calls.specs.Climb.{is_nested, is_nested_key, link_of}
 use Rattle.ep_calls.specs.Parts.{AreCoherent, Parts}
@@ -12,16 +14,16 @@ use Rattle.ep_interest.specs.Registrations.{IsSound, entry_under, ids, is_on, le
 use Rattle.ep_interest.specs.declared.entry.Entry.{Entry}
 use Rattle.ep_kernel.proofs.EntryLemmas.{is_under}
 use Rattle.ep_kernel.proofs.PushLemmas.{gains_both, gains_same}
-use Rattle.ep_kernel.proofs.ViewLemmas.{among_ids, any_of, find_entry, same_bools}
+use Rattle.ep_kernel.proofs.ViewLemmas.{among_ids, find_entry}
 use Rattle.ep_kernel.specs.Push.{Gains, comes_by, comes_in, comes_on, passes_found}
 use Rattle.ep_climb.specs.Reach.{AreReached}
-use Rattle.ep_law.proofs.ListLemmas.{all_member, among, among_member, any_member, filtered_member, filtered_passes, member_filter, member_map}
-use Rattle.ep_law.proofs.TestLemmas.{both_true, from_test, same_nat}
+use Rattle.ep_law.proofs.ListLemmas.{all_member, among, among_member, any_has, any_member, filtered_member, filtered_passes, member_filter, member_map}
 use Rattle.ep_law.specs.Laws.{Member}
 use Rattle.ep_machine.specs.Lists.{is_among}
 use Rattle.ep_nest.specs.declared.link.Link.{Link}
 use Rattle.ep_calls.specs.Climb.{is_reached_key}
-use Rattle.ep_ready.specs.ReadyLists.{Lists, entry_id}
+use Rattle.ep_rings.specs.KeyWalk.{entry_id}
+use Rattle.ep_ready.specs.ReadyLists.{Lists}
 use Rattle.ep_table.specs.Value.{number_under}
 
 lets_some : (o : Option Entry) → lets_in o ≡ true → (x : Entry) × (o ≡ Some x)
@@ -50,7 +52,7 @@ module _ (n : ℕ) (p : Parts) (coherent : AreCoherent p) (sound : IsSound p.int
       let of : Member link p.graph = subst (Member link) (sym coherent.nested) (member_map (link_of r) x.0 (filter (is_nested p.tables) r.entries) (member_filter (is_nested p.tables) x.0 r.entries there nested)) in
       let reached = (both_true (is_some (number_under p.tables x.0.desc)) (is_reached_key n p.tables r x.0.desc) (sym (exact x.0.desc) ∙ (ap (is_among ks) key ∙ among found.0 ks found.1))).1 in
       let among_them : on x.0.desc k ≡ true = among_ids p.tables.keys r sound (is_on x.0.desc) k x.0 x.1 ∙ same_nat x.0.desc.0 in
-      any_of (λ l. comes_by n p l k) p.graph link of (λ i. reached i && (among_them i && more.1 i))
+      any_has (λ l. comes_by n p l k) p.graph link of (λ i. reached i && (among_them i && more.1 i))
 
   from : (k : ℕ) → list_any (λ l. comes_by n p l k) p.graph ≡ true → list_any (λ i. comes_on p (record { 0 = i }) k) ks ≡ true
   from k t =
@@ -65,7 +67,7 @@ module _ (n : ℕ) (p : Parts) (coherent : AreCoherent p) (sound : IsSound p.int
       let lives : is_some (number_under p.tables l.inner) ≡ true = ap (λ (d : DescId). is_some (number_under p.tables d)) inner ∙ link.desc in
       let nested : is_nested_key p.tables l.inner ≡ true = ap (is_nested_key p.tables) inner ∙ filtered_passes (is_nested p.tables) r.entries y.0 y.1 in
       let reached : is_among ks l.inner.0 ≡ true = exact l.inner ∙ (λ j. lives j && here.0 j) in
-      any_of (λ i. comes_on p (record { 0 = i }) k) ks l.inner.0 (among_member ks l.inner.0 reached) (λ j. nested j && here.1 j)
+      any_has (λ i. comes_on p (record { 0 = i }) k) ks l.inner.0 (among_member ks l.inner.0 reached) (λ j. nested j && here.1 j)
 
   pub gains_in : (old mid new : Lists) → Gains (λ k. passes_found (entry_under p.interest (entry_id k))) old mid → Gains (λ k. list_any (λ i. comes_on p (record { 0 = i }) k) ks) mid new → Gains (comes_in n p) old new
   gains_in old mid new a b =

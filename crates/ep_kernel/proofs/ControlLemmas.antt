@@ -1,6 +1,6 @@
 -- What an epoll_ctl leaves of the ready lists, and of the hopes.
 use Rattle.ep_calls.proofs.EntryLemmas.{holds_under}
-use Rattle.std.proofs.Common.{◌≡◌, ◌≢◌, ◌++◌, ◌&&◌, ◌||◌, ◌⊎◌, ◌==◌, ◌∙◌, ℕ, ℤ, Bool, true, false, IsSome, List, [], ◌∷◌, None, Option, Some, ap, append-nil, cond, filter, inl, inr, not, pos, refl, subst, sym, unwrap_or}
+use Rattle.std.proofs.Common.{◌≡◌, ◌≢◌, ◌++◌, ◌&&◌, ◌||◌, ◌⊎◌, ◌==◌, ◌∙◌, ℕ, Bool, true, false, IsSome, List, [], ◌∷◌, None, Option, Some, ap, append-nil, cond, filter, inl, inr, not, pos, refl, subst, sym, unwrap_or}
 use Rattle.std.specs.List.{list_any}
 use Rattle.std.specs.Option.{option_map}
 use Rattle.std.specs.Ordering.{int_eq}
@@ -30,36 +30,23 @@ use Rattle.ep_kernel.specs.Turns.{AlteredStand, HopesGo, IsAlteredKey, Turns}
 use Rattle.ep_kernel.proofs.EntryLemmas.{is_under}
 use Rattle.ep_kernel.proofs.PrunesLemmas.{stands_left}
 use Rattle.ep_kernel.proofs.PushLemmas.{gains_none, gains_one, gains_same, have_still}
-use Rattle.ep_climb.proofs.SetLemmas.{Clears, Sets, apart_nat, some_of}
+use Rattle.ep_climb.proofs.SetLemmas.{Clears, Sets}
 use Rattle.ep_calls.proofs.FindLemmas.{each_numbered}
-use Rattle.ep_kernel.proofs.SurvivalLemmas.{or_cases}
-use Rattle.ep_law.proofs.ListLemmas.{all_member, among_split, any_member, filtered_member, filtered_passes}
-use Rattle.ep_law.proofs.TestLemmas.{both_true, from_test, or_left, or_right, same_nat}
+use Rattle.ep_law.proofs.ListLemmas.{all_member, any_member, filtered_member, filtered_passes}
 use Rattle.std.proofs.lemmas.List.Elements.{All-from_recursion}
+use Rattle.std.proofs.lemmas.Option.{none-some}
+use Rattle.std.proofs.Math.Bool.{and-false, and-true, or-false, or-true}
+use Rattle.ep_facts.proofs.AmongFacts.{among_append}
+use Rattle.ep_facts.proofs.OptionFacts.{value_of}
+use Rattle.ep_facts.proofs.BoolFacts.{both_true, from_not_false, or_cases, or_left, or_right}
+use Rattle.ep_facts.proofs.NatFacts.{from_test, same_int, same_nat, test_apart}
+use Rattle.ep_facts.proofs.ListFacts.{all_kept}
 use Rattle.ep_machine.specs.Files.{named_by}
 use Rattle.ep_machine.specs.Lists.{is_among}
 use Rattle.ep_machine.specs.Watches.{is_del}
-use Rattle.ep_ready.specs.ReadyLists.{IsSound as AreSound, Lists, LosesPlace, Same, after_push, entry_id, instance_at, list_at, stands, stands_by}
+use Rattle.ep_rings.specs.KeyWalk.{entry_id}
+use Rattle.ep_ready.specs.ReadyLists.{IsSound as AreSound, Lists, LosesPlace, Same, after_push, instance_at, list_at, stands, stands_by}
 use Rattle.ep_table.specs.Value.{Seen, Sound, number_under as number_of_key}
-
-none_some : {A : Type 0} (a : A) → None ≡ Some a → ⊥
-none_some a h = absurd cc
-
-or_true : (b : Bool) → (b || true) ≡ true
-or_true true = refl
-or_true false = refl
-
-or_false : (b : Bool) → (b || false) ≡ b
-or_false true = refl
-or_false false = refl
-
-and_true : (b : Bool) → (b && true) ≡ b
-and_true true = refl
-and_true false = refl
-
-all_kept : (xs : List ℕ) → filter (λ k. true) xs ≡ xs
-all_kept [] = refl
-all_kept (x ∷ xs) = ap (λ (ys : List ℕ). x ∷ ys) (all_kept xs)
 
 -- what shows, shows where tables, clock and registrations are the same
 shows_at : (p q : Parts) → q.tables ≡ p.tables → q.clock ≡ p.clock → q.interest ≡ p.interest → (o : Option Entry) → shows_found q o ≡ shows_found p o
@@ -106,11 +93,8 @@ module _ (p q : Parts) (l m : Lists) (tables : q.tables ≡ p.tables) (clock : q
 
 -- Where one comes to the end of its list, or none does.
 pub gains_settled : (id : EntryId) (b : Bool) (old new : Lists) → MatchBool b (Gains (λ k. k == id.0) old new) (new ≡ old) → Gains (λ k. k == id.0 && b) old new
-gains_settled id true old new h = gains_same (λ k. k == id.0) (λ k. k == id.0 && true) old new (λ k. sym (and_true (k == id.0))) h
-gains_settled id false old new h = subst (λ (l : Lists). Gains (λ k. k == id.0 && false) old l) (sym h) (gains_same (λ k. false) (λ k. k == id.0 && false) old old (λ k. sym (and_false (k == id.0))) (gains_none old)) where
-  and_false : (b : Bool) → (b && false) ≡ false
-  and_false true = refl
-  and_false false = refl
+gains_settled id true old new h = gains_same (λ k. k == id.0) (λ k. k == id.0 && true) old new (λ k. sym (and-true (k == id.0))) h
+gains_settled id false old new h = subst (λ (l : Lists). Gains (λ k. k == id.0 && false) old l) (sym h) (gains_same (λ k. false) (λ k. k == id.0 && false) old old (λ k. sym (and-false (k == id.0))) (gains_none old))
 
 stands_gained : (comes : ℕ → Bool) (old new : Lists) → Gains comes old new → (k i : ℕ) → instance_at old (entry_id k) ≡ Some i → stands new (entry_id k) ≡ (stands old (entry_id k) || comes k)
 stands_gained comes old new gains k i at =
@@ -118,11 +102,11 @@ stands_gained comes old new gains k i at =
     ∙ (gains.each i k
     ∙ ((λ t. is_among (list_at old i) k || comes k && is_home i (at t))
     ∙ (ap (λ (b : Bool). is_among (list_at old i) k || comes k && b) (same_nat i)
-    ∙ (ap (λ (b : Bool). is_among (list_at old i) k || b) (and_true (comes k))
+    ∙ (ap (λ (b : Bool). is_among (list_at old i) k || b) (and-true (comes k))
     ∙ ap (λ (o : Option ℕ). stands_by old k o || comes k) (sym at)))))
 
 any_of : (f g : Entry → Bool) (xs : List Entry) (n : ℕ) (x : Entry) → numbered xs n ≡ Some x → f x ≡ true → g x ≡ true → list_any g (filter f xs) ≡ true
-any_of f g [] n x h is shows = absurd (none_some x h)
+any_of f g [] n x h is shows = absurd (none-some x h)
 any_of f g (z ∷ xs) n x h is shows = elim (cases_Bool (z.number == n)) [
   | inl e ↦
       let same : z ≡ x = ap (λ (o : Option Entry). unwrap_or o z) (ap (λ (b : Bool). cond b (Some z) (numbered xs n)) (sym e) ∙ h) in
@@ -130,7 +114,7 @@ any_of f g (z ∷ xs) n x h is shows = elim (cases_Bool (z.number == n)) [
   | inr e ↦
       let rest = any_of f g xs n x (ap (λ (b : Bool). cond b (Some z) (numbered xs n)) (sym e) ∙ h) is shows in
       elim (f z) as (λ b. list_any g (cond b (z ∷ filter f xs) (filter f xs)) ≡ true) [
-        | true ↦ ap (λ (b : Bool). g z || b) rest ∙ or_true (g z)
+        | true ↦ ap (λ (b : Bool). g z || b) rest ∙ or-true (g z)
         | false ↦ rest
       ]
 ]
@@ -140,9 +124,6 @@ pub record IsNamed (named : Named) (under : Fd) (x : Entry) : Type 0 where
   pub instance : x.instance.0 ≡ named.instance.0
   pub fd : x.fd.0 ≡ under.0
   pub desc : x.desc.0 ≡ named.desc.0
-
-same_int : (a : ℤ) → int_eq a a ≡ true
-same_int a = (Decides-int_eq a a).1 refl
 
 -- what has the numbers of the call has its keys
 module _ (v : Seen) (sound : Sound v) (pid : ℕ) (args : Control) (named : Named) (names : Names v pid args.epfd.0 args.fd.0 named) (x : Entry) (linked : IsLinked v.keys x) where
@@ -205,7 +186,7 @@ module _ (pid : Pid) (args : Control) (p q : Parts) (mid m : Lists) (tables : q.
         stands_gained comes mid m gains k x.instance.0 (at k x u)
         ∙ (ap (λ (b : Bool). stands mid (entry_id k) || k == id.0 && b) (raised k x u n shows)
         ∙ (ap (λ (j : ℕ). stands mid (entry_id k) || j == id.0 && true) (at_id k x u n)
-        ∙ (ap (λ (b : Bool). stands mid (entry_id k) || b && true) (same_nat id.0) ∙ or_true (stands mid (entry_id k)))))
+        ∙ (ap (λ (b : Bool). stands mid (entry_id k) || b && true) (same_nat id.0) ∙ or-true (stands mid (entry_id k)))))
 
     -- what comes, is this one
     shows_raised : is_at_instance raising ≡ true → key_shows q id.0 ≡ true
@@ -232,8 +213,8 @@ module _ (pid : Pid) (args : Control) (p q : Parts) (mid m : Lists) (tables : q.
       still k x ne u =
           let was : entry_under p.interest (entry_id k) ≡ Some x = sym (sets.others (entry_id k) ne) ∙ u in
           stands_gained comes mid m gains k x.instance.0 (at k x u)
-          ∙ (ap (λ (b : Bool). stands mid (entry_id k) || b && is_at_instance raising) (apart_nat k id.0 ne)
-          ∙ (or_false (stands mid (entry_id k))
+          ∙ (ap (λ (b : Bool). stands mid (entry_id k) || b && is_at_instance raising) (test_apart k id.0 ne)
+          ∙ (or-false (stands mid (entry_id k))
           ∙ (ap (stands_by mid k) (at k x u ∙ sym (listed.places (entry_id k) ∙ ap (option_map (λ (z : Entry). z.instance.0)) was))
           ∙ stands_alike l mid lists k (instance_at l (entry_id k)))))
 
@@ -246,7 +227,7 @@ module _ (pid : Pid) (args : Control) (p q : Parts) (mid m : Lists) (tables : q.
       ]
 
       come_named : (i k : ℕ) → is_among (gains.more i) k ≡ true → (is_among (list_at l i) k ≡ true) ⊎ IsAlteredKey (CallOf pid (control_call args)) p q k
-      come_named i k on = elim (or_cases (is_among (list_at mid i) k) (comes k && is_home i (instance_at mid (entry_id k))) (sym (gains.each i k) ∙ (ap (λ (ks : List ℕ). is_among ks k) (gains.lists i) ∙ (among_split (list_at mid i) (gains.more i) k ∙ or_right (is_among (list_at mid i) k) _ on)))) [
+      come_named i k on = elim (or_cases (is_among (list_at mid i) k) (comes k && is_home i (instance_at mid (entry_id k))) (sym (gains.each i k) ∙ (ap (λ (ks : List ℕ). is_among ks k) (gains.lists i) ∙ (among_append (list_at mid i) (gains.more i) k ∙ or_right (is_among (list_at mid i) k) _ on)))) [
         | inl stood_there ↦ inl (ap (λ (ks : List ℕ). is_among ks k) (sym (lists i)) ∙ stood_there)
         | inr came ↦
             let two = both_true (k == id.0) (is_at_instance raising) (both_true (comes k) (is_home i (instance_at mid (entry_id k))) came).0 in
@@ -301,7 +282,7 @@ among_left f (x ∷ xs) k h =
         | true ↦ λ g. refl
         | false ↦ λ g. among_left f xs k g
       ] e
-      | false ↦ λ e. ap (λ (b : Bool). k == x || b) (among_left f xs k e) ∙ or_true (k == x)
+      | false ↦ λ e. ap (λ (b : Bool). k == x || b) (among_left f xs k e) ∙ or-true (k == x)
     ] h
 
 module _ (pid : Pid) (args : Control) (p q : Parts) (l m : Lists) (deletes : args.op ≡ pos 2) (id : EntryId) (clears : Clears p.interest q.interest id) (loses : LosesPlace l m id) where
@@ -311,10 +292,6 @@ module _ (pid : Pid) (args : Control) (p q : Parts) (l m : Lists) (deletes : arg
   stood : (k : EntryId) → k.0 ≢ id.0 → (o : Option ℕ) → instance_at l k ≡ o → stands_by m k.0 o ≡ true → stands_by l k.0 o ≡ true
   stood k ne None h s = s
   stood k ne (Some i) h s = among_left (λ x. not (x == id.0)) (list_at l i) k.0 (ap (λ (ks : List ℕ). is_among ks k.0) (sym (loses.lists i)) ∙ s)
-
-  not_false : (b : Bool) → not b ≡ false → b ≡ true
-  not_false true h = refl
-  not_false false h = absurd (false≢true (sym h))
 
   altered_none : AlteredStand (CallOf pid (control_call args)) p q m
   altered_none = λ k x u op instance fd desc shows. absurd (false≢true (sym op ∙ ap is_del deletes))
@@ -328,7 +305,7 @@ module _ (pid : Pid) (args : Control) (p q : Parts) (l m : Lists) (deletes : arg
   module _ (listed : IsListed p l) where
     left_soundly : (k : EntryId) (x : Entry) → entry_under q.interest k ≡ Some x → stands m k ≡ true → may_stand x ≡ true
     left_soundly k x u s = elim (cases_eq k.0 id.0) [
-      | inl e ↦ absurd (none_some x (sym (gone_entry k e) ∙ u))
+      | inl e ↦ absurd (none-some x (sym (gone_entry k e) ∙ u))
       | inr ne ↦
           let here = stood k ne (instance_at l k) refl (ap (stands_by m k.0) (sym (loses.others k ne)) ∙ s) in
           listed.sound k x (sym (clears.others k ne) ∙ u) here
@@ -341,7 +318,7 @@ module _ (pid : Pid) (args : Control) (p q : Parts) (l m : Lists) (deletes : arg
       lists = λ i. loses.lists i ∙ sym (append-nil (filter (λ k. not (k == id.0)) (list_at l i)));
       comes = λ i k on. absurd (false≢true on);
       unpicked = λ i k x h u t. refl;
-      leaves = λ i k x h u f s. inr (ap (λ (n : ℕ). number_under q.interest (record { 0 = n })) (from_test k id.0 (not_false (k == id.0) f)) ∙ clears.gone);
+      leaves = λ i k x h u f s. inr (ap (λ (n : ℕ). number_under q.interest (record { 0 = n })) (from_test k id.0 (from_not_false (k == id.0) f)) ∙ clears.gone);
       again = λ k x u f s. absurd (false≢true f);
       altered = altered_none;
       ids = clears.ids;
@@ -352,8 +329,8 @@ module _ (pid : Pid) (args : Control) (p q : Parts) (l m : Lists) (deletes : arg
   pub hopes_cleared : HopesFor p l → HopesGo (CallOf pid (control_call args)) p q m
   hopes_cleared hopes = record {
     stays = λ k x u shows number.
-        let other : k ≢ id.0 = λ e. none_some x.number (sym clears.gone ∙ (ap (λ (n : ℕ). number_under q.interest (record { 0 = n })) (sym e) ∙ number)) in
-        stands_left l m (λ j. not (j == id.0)) k (loses.others (entry_id k) other) loses.lists (ap not (apart_nat k id.0 other)) (hopes.complete k shows);
+        let other : k ≢ id.0 = λ e. none-some x.number (sym clears.gone ∙ (ap (λ (n : ℕ). number_under q.interest (record { 0 = n })) (sym e) ∙ number)) in
+        stands_left l m (λ j. not (j == id.0)) k (loses.others (entry_id k) other) loses.lists (ap not (test_apart k id.0 other)) (hopes.complete k shows);
     altered = altered_none;
     places = places_cleared hopes.places;
   }
@@ -362,4 +339,4 @@ module _ (pid : Pid) (args : Control) (p q : Parts) (l m : Lists) (deletes : arg
 pub settled_end : (l new : Lists) (id : EntryId) (entry : Option Entry) (x : Entry) (raising : Raising) → AreSound l → IsSome (instance_at l id) → entry ≡ Some x → is_at_instance raising ≡ true → new ≡ after_push l id → Settles id entry raising l new
 settled_end l new id entry x raising sound placed there raised is =
     subst (λ (o : Option Entry). Settles id o raising l new) (sym there)
-    (subst (λ (b : Bool). MatchBool b (Gains (λ k. k == id.0) l new) (new ≡ l)) (sym raised) (let at = some_of (instance_at l id) placed in gains_one l sound id at.0 at.1 new is))
+    (subst (λ (b : Bool). MatchBool b (Gains (λ k. k == id.0) l new) (new ≡ l)) (sym raised) (let at = value_of (instance_at l id) placed in gains_one l sound id at.0 at.1 new is))

@@ -1,10 +1,13 @@
 -- An epoll_ctl over the parts and the ready lists: a registration that is there, and one that is not.
-use Rattle.std.proofs.Common.{◌≡◌, ◌&&◌, ◌||◌, ◌==◌, ◌∙◌, ◌+◌, ℕ, Bool, true, false, IsSome, List, None, Option, Some, ap, cond, filter, inl, inr, not, refl, subst, sym, unwrap_or}
+use Rattle.std.proofs.Common.{◌≡◌, ◌&&◌, ◌==◌, ◌∙◌, ◌+◌, ℕ, Bool, true, false, IsSome, List, None, Option, Some, ap, cond, filter, inl, inr, not, refl, subst, sym, unwrap_or}
 use Rattle.std.specs.Option.{option_map}
 use Rattle.std.specs.Ordering.{int_eq}
 use Rattle.std.specs.Prelude.{MatchBool}
 use Rattle.std.proofs.lemmas.Bool.{cases_eq, false≢true}
 use Rattle.std.proofs.lemmas.Bool.Decides.{Decides-int_eq}
+use Rattle.std.proofs.Math.Bool.{or-true}
+use Rattle.ep_facts.proofs.NatFacts.{from_test}
+use Rattle.ep_facts.proofs.OptionFacts.{value_of}
 use Rattle.ep_base.specs.declared.call.Event.TheVariants.{Call as CallOf}
 use Rattle.ep_base.specs.declared.ids.EntryId.{EntryId}
 use Rattle.ep_base.specs.declared.ids.Fd.{Fd}
@@ -29,16 +32,11 @@ use Rattle.ep_kernel.specs.Push.{Gains}
 use Rattle.ep_kernel.specs.Turns.{Turns}
 use Rattle.ep_kernel.proofs.ControlLemmas.{IsNamed, turns_cleared, turns_set, turns_still}
 use Rattle.ep_kernel.proofs.PlacesLemmas.{loses_nothing}
-use Rattle.ep_climb.proofs.SetLemmas.{Sets, clears_deleted, renewed, sets_added, sets_modified, some_of}
-use Rattle.ep_law.proofs.TestLemmas.{from_test}
+use Rattle.ep_climb.proofs.SetLemmas.{Sets, clears_deleted, renewed, sets_added, sets_modified}
 use Rattle.ep_machine.specs.Bits.{ET, has_bit}
 use Rattle.ep_machine.specs.Watches.{is_del}
 use Rattle.ep_ready.specs.ReadyLists.{GainsPlace, IsSound as AreSound, Lists, LosesPlace, Same, instance_at}
 use Rattle.ep_table.specs.Value.{Sound}
-
-or_true : (b : Bool) → (b || true) ≡ true
-or_true true = refl
-or_true false = refl
 
 and_all : (a b c : Bool) → (a && b && c) ≡ true → (a ≡ true) × (b ≡ true) × (c ≡ true)
 and_all true true true h = (refl, refl, refl)
@@ -72,7 +70,7 @@ pub record IsThere (r : Registrations) (by : Named) (under : Fd) (id : EntryId) 
 
 pub there_by : (r : Registrations) (named : Named) (fd : Fd) (id : EntryId) → IsFound r named fd (Some id) → IsThere r named fd id
 there_by r named fd id found =
-    let n = some_of (number_under r id) found.key in
+    let n = value_of (number_under r id) found.key in
     let x = found_by_test (has_key named.instance fd named.desc) r.entries (sym found.there) in
     record {
       it = x.0;
@@ -179,7 +177,7 @@ module _ (pid : Pid) (args : Control) (plan : Plan) (outcome : Outcome) (p q : P
           let named : IsNamed plan.named args.fd y = record { instance = there.named.instance; fd = there.named.fd; desc = there.named.desc } in
           let settled : Settles id (Some y) outcome.raising l m = subst (λ (o : Option Entry). Settles id o outcome.raising l m) sets.here settles in
           subst (λ (ks : List ℕ). Turns (CallOf pid (control_call args)) ks p l q m) (sym controls.picked)
-          (turns_set pid args p q l m controls.tables sound coherent.linked is plan.named plans.names id y sets named (modified_places args plan p q l listed.places id there sets) outcome.raising (raises args plan outcome p q controls h) settled l listed (or_true (not (has_bit args.mask.0 ET))) (λ i. refl) (ap is_del (plans.code ∙ ap code_of of)))
+          (turns_set pid args p q l m controls.tables sound coherent.linked is plan.named plans.names id y sets named (modified_places args plan p q l listed.places id there sets) outcome.raising (raises args plan outcome p q controls h) settled l listed (or-true (not (has_bit args.mask.0 ET))) (λ i. refl) (ap is_del (plans.code ∙ ap code_of of)))
 
       by_case : (b : Bool) → is_done outcome.answer ≡ b → (op : Operation) → plan.operation ≡ op → MatchBool b (Changes op (Some id) plan.named args p.interest q.interest) (q.interest ≡ p.interest) → Done m
       by_case false h op of changes = refused h changes
@@ -209,7 +207,7 @@ module _ (pid : Pid) (args : Control) (plan : Plan) (outcome : Outcome) (p q : P
             let named : IsNamed plan.named args.fd y = record { instance = refl; fd = refl; desc = refl } in
             let settled : Settles id (Some y) outcome.raising mid m = subst (λ (o : Option Entry). Settles id o outcome.raising mid m) sets.here settles in
             subst (λ (ks : List ℕ). Turns (CallOf pid (control_call args)) ks p l q m) (sym controls.picked)
-            (turns_set pid args p q mid m controls.tables sound coherent.linked is plan.named plans.names id y sets named (added_places args plan p q l listed.places mid id gains sets) outcome.raising (raises args plan outcome p q controls h) settled l listed (or_true (not (has_bit args.mask.0 ET))) gains.lists (ap is_del (plans.code ∙ ap code_of adds)))
+            (turns_set pid args p q mid m controls.tables sound coherent.linked is plan.named plans.names id y sets named (added_places args plan p q l listed.places mid id gains sets) outcome.raising (raises args plan outcome p q controls h) settled l listed (or-true (not (has_bit args.mask.0 ET))) gains.lists (ap is_del (plans.code ∙ ap code_of adds)))
 
         add_case : (b : Bool) → is_done outcome.answer ≡ b → MatchBool b (Changes Add None plan.named args p.interest q.interest) (q.interest ≡ p.interest) → Done m
         add_case true h changes = added h changes

@@ -22,7 +22,7 @@ use Rattle.ep_kernel.specs.Turns.{AlteredStand, HopesGo}
 use Rattle.ep_kernel.specs.declared.asked.Asked.{Asked}
 use Rattle.ep_kernel.specs.declared.beside.Beside.{Beside}
 use Rattle.ep_ready.specs.ReadyLists.{Lists}
-use Rattle.ep_ready.specs.Walk.{Walk}
+use Rattle.ep_walk.specs.Walk.{Walk}
 
 -- where what is reached and the choice stay
 module _ (event : Event) (p q : Parts) (b c : Beside) (reached : c.reached ≡ b.reached) (choice : c.choice ≡ b.choice) (room : HasRoom p.interest b) where

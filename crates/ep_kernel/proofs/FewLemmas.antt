@@ -1,7 +1,10 @@
 -- Where a wait finds few, what it leaves on its list is reportable at the end of the event.
-use Rattle.std.proofs.Common.{◌≡◌, ◌<◌, ◌≤◌, ◌∙◌, ◌+◌, ◌==◌, ◌&&◌, ◌||◌, ℕ, Bool, true, false, not, List, [], None, Option, Some, ap, arith, inl, inr, length, map, refl, subst, sym, unwrap_or}
+use Rattle.std.proofs.Common.{◌≡◌, ◌<◌, ◌≤◌, ◌∙◌, ◌+◌, ◌==◌, ◌&&◌, ◌||◌, ℕ, true, false, not, List, [], None, Option, Some, ap, arith, inl, inr, length, map, refl, subst, sym, unwrap_or}
 use Rattle.std.specs.Prelude.{MatchOption}
 use Rattle.std.proofs.lemmas.Bool.{false≢true}
+use Rattle.ep_facts.proofs.NatFacts.{from_test}
+use Rattle.ep_facts.proofs.AmongFacts.{among_append}
+use Rattle.ep_facts.proofs.BoolFacts.{both_true, from_not, or_cases, or_left, or_right}
 use Rattle.ep_base.specs.declared.answer.Answer.TheVariants.{Events, Refused}
 use Rattle.ep_base.specs.declared.answer.Report.{Report}
 use Rattle.ep_base.specs.declared.call.Call.TheVariants.{EpollWait}
@@ -27,7 +30,7 @@ use Rattle.ep_kernel.proofs.NextLemmas.{goes, keeps_after, stands_after, to_stat
 use Rattle.ep_kernel.proofs.NumberLemmas.{entry_at, number_member}
 use Rattle.ep_kernel.proofs.ReadyBookLemmas.{listed_of}
 use Rattle.ep_kernel.proofs.ReportsFirstLemmas.{waits_begun}
-use Rattle.ep_kernel.proofs.SurvivalLemmas.{climb, climbed_back, left_back, or_cases, stood}
+use Rattle.ep_kernel.proofs.SurvivalLemmas.{climb, climbed_back, left_back, stood}
 use Rattle.ep_kernel.proofs.ViewLemmas.{Views, entry_views, view_member}
 use Rattle.ep_kernel.proofs.WaitedLemmas.{IsReport, end, ends_reportable, passes_nothing, resumed, same_files, still_shows, waited}
 use Rattle.ep_kernel.specs.Listed.{lists_of, order_at}
@@ -37,11 +40,10 @@ use Rattle.ep_kernel.specs.Running.{Runs}
 use Rattle.ep_kernel.specs.Take.{key_stays, stays_found}
 use Rattle.ep_kernel.specs.Wait.{LeavesStaying}
 use Rattle.ep_law.proofs.GraphLemmas.{graph_stays_legal, member_of_map}
-use Rattle.ep_law.proofs.ListLemmas.{all_member, among, among_member, among_split, member_map}
+use Rattle.ep_law.proofs.ListLemmas.{all_member, among, among_member, member_map}
 use Rattle.ep_law.proofs.NamedLivesLemmas.{named_lives}
 use Rattle.ep_law.proofs.SoundLemmas.{sound_begun}
 use Rattle.ep_law.proofs.StepLemmas.{after_first, change_counted, change_n, step_changed}
-use Rattle.ep_law.proofs.TestLemmas.{both_true, from_test, or_left, or_right}
 use Rattle.ep_law.specs.Laws.{Member, is_reportable_in, passes_on_of}
 use Rattle.ep_machine.specs.Bits.{ET, has_bit}
 use Rattle.ep_machine.specs.Deaths.{named, named_in_tables}
@@ -55,7 +57,8 @@ use Rattle.ep_machine.specs.State.{Change, State, Waiter, Watch}
 use Rattle.ep_machine.specs.Step.{change, next_event}
 use Rattle.ep_machine.specs.Watches.{is_legal, links, number_in}
 use Rattle.ep_order.specs.Event.{ListsGoOn, end_of}
-use Rattle.ep_ready.specs.ReadyLists.{Lists, entry_id, instance_at, list_at}
+use Rattle.ep_rings.specs.KeyWalk.{entry_id}
+use Rattle.ep_ready.specs.ReadyLists.{Lists, instance_at, list_at}
 use Rattle.ep_table.specs.Value.{number_under as desc_number}
 use Rattle.ep_view.proofs.AtRestLemmas.{quiet_begun, quiet_change}
 use Rattle.ep_view.proofs.SettleLemmas.{settle_remains}
@@ -71,10 +74,6 @@ wait_reports limits b sound rest ks caller (CallOf p (EpollWait epfd max timeout
 wait_reports limits b sound rest ks caller Resume e most c reports (w, found, instance, asked) is told =
     subst (λ (d : ℕ). IsReport b d ks c) instance (resumed b sound ks rest.callers caller w c reports found is told)
 wait_reports limits b sound rest ks caller event e most c reports waits is told = absurd waits
-
-from_not : (a : Bool) → not a ≡ true → a ≡ false
-from_not true h = absurd (false≢true h)
-from_not false h = refl
 
 -- what a report leaves of the list of its instance e
 module _ (n : ℕ) (event : Event) (outcome : Outcome) (old mid noted buried climbed new : Parts) (l0 l1 l2 l3 : Lists) (follows : Follows n event outcome old mid noted buried climbed new l0 l1 l2 l3) (s t : State)
@@ -105,15 +104,15 @@ module _ (n : ℕ) (event : Event) (outcome : Outcome) (old mid noted buried cli
   all_named d lives =
       let tables = named_in_tables b.files.tables in
       let places : List Waiter → List ℕ = map (λ w. w.instance) in
-      let held : (is_among tables d || is_among (places b.waiters) d) ≡ true = sym (among_split tables (places b.waiters) d) ∙ (rest.named d ∙ lives) in
+      let held : (is_among tables d || is_among (places b.waiters) d) ≡ true = sym (among_append tables (places b.waiters) d) ∙ (rest.named d ∙ lives) in
       elim (or_cases (is_among tables d) (is_among (places b.waiters) d) held) [
-        | inl there ↦ among_split tables (places report.ws) d ∙ or_left _ _ there
+        | inl there ↦ among_append tables (places report.ws) d ∙ or_left _ _ there
         | inr waits ↦
             let w = member_of_map (λ (v : Waiter). v.instance) b.waiters d (among_member (places b.waiters) d waits) in
             elim (report.stay w.0 w.1) [
               | inl here ↦ ap (is_among (named told_state)) (sym w.2 ∙ here) ∙ named_here
               | inr stays ↦
-                  among_split tables (places report.ws) d
+                  among_append tables (places report.ws) d
                   ∙ or_right (is_among tables d) _ (among d (places report.ws) (subst (λ (j : ℕ). Member j (places report.ws)) w.2 (member_map (λ (v : Waiter). v.instance) w.0 report.ws stays)))
             ]
       ]

@@ -2,6 +2,8 @@
 use Rattle.std.proofs.Common.{◌≡◌, ◌∙◌, ◌+◌, ◌&&◌, ◌||◌, ◌⊎◌, ◌≤◌, ℕ, Bool, true, false, not, List, None, Option, Some, ap, arith, cond, filter, inl, inr, length, map, nat_lt, refl, slice_index_or, subst, sym}
 use Rattle.std.specs.Option.{option_map}
 use Rattle.std.proofs.lemmas.Bool.{cases_Bool, false≢true}
+use Rattle.ep_facts.proofs.NatFacts.{same_nat, same_test}
+use Rattle.ep_facts.proofs.BoolFacts.{both_true, or_left, or_right}
 use Rattle.ep_base.specs.declared.call.Event.{Event}
 use Rattle.ep_base.specs.declared.ids.CallerId.{CallerId}
 use Rattle.ep_base.specs.declared.ids.EntryId.{EntryId}
@@ -28,13 +30,12 @@ use Rattle.ep_kernel.proofs.AlteredLemmas.{IsOf, altered_stands}
 use Rattle.ep_kernel.proofs.EntryLemmas.{is_under}
 use Rattle.ep_kernel.proofs.PrunesLemmas.{stands_left}
 use Rattle.ep_kernel.proofs.SurvivalLemmas.{gone, gone_is, places_left, was_under}
-use Rattle.ep_kernel.proofs.ViewLemmas.{any_of, among_ids, brings_asked, entry_views, view_of}
+use Rattle.ep_kernel.proofs.ViewLemmas.{among_ids, brings_asked, entry_views, view_of}
 use Rattle.ep_kernel.specs.Listed.{HasReportables, HavePlaces, HopesFor, key_shows, may_stand, shows_found}
 use Rattle.ep_kernel.specs.Push.{Gains, comes_by, comes_in, is_home, passes_found}
 use Rattle.ep_kernel.specs.Running.{ListsSpread}
 use Rattle.ep_kernel.specs.Turns.{HopesGo}
-use Rattle.ep_law.proofs.ListLemmas.{member_filter, member_map}
-use Rattle.ep_law.proofs.TestLemmas.{both_true, or_left, or_right, same_nat, same_test}
+use Rattle.ep_law.proofs.ListLemmas.{any_has, member_filter, member_map}
 use Rattle.ep_law.specs.Laws.{Member, ReportablesAreSpread}
 use Rattle.ep_machine.specs.Bits.{ET, IN, asked, has_bit, when}
 use Rattle.ep_machine.specs.Counts.{brings}
@@ -42,7 +43,8 @@ use Rattle.ep_machine.specs.Lists.{is_among}
 use Rattle.ep_machine.specs.State.{State, Waiter}
 use Rattle.ep_machine.specs.Step.{next_event}
 use Rattle.ep_nest.specs.declared.link.Link.{Link}
-use Rattle.ep_ready.specs.ReadyLists.{Lists, entry_id, instance_at, list_at, stands, stands_by}
+use Rattle.ep_rings.specs.KeyWalk.{entry_id}
+use Rattle.ep_ready.specs.ReadyLists.{Lists, instance_at, list_at, stands, stands_by}
 use Rattle.ep_table.specs.Value.{Seen, Sound as SoundTables}
 use Rattle.ep_view.proofs.KernelViewLemmas.{reportable_kept}
 use Rattle.ep_view.specs.KernelView.{KernelWatch, kernel_watch, reached_now, ready_now, shows}
@@ -194,7 +196,7 @@ module _ (law : ReportablesAreSpread) (past : List Record) (old mid left : Parts
         let there : Member link buried.graph = subst (Member link) (sym leaves.coherent_buried.nested) (member_map (link_of r) y (filter (is_nested v) r.entries) (member_filter (is_nested v) y r.entries (member_of r (entry_id k) y under) nested)) in
         let among : has_id (ids r (filter (is_on y.desc) r.entries)) k ≡ true = among_ids v.keys r leaves.left (is_on y.desc) k y under ∙ same_nat y.desc.0 in
         let let_by : lets_in (entry_under r (entry_id k)) ≡ true = ap lets_in under ∙ (λ i. armed i && lets i) in
-        comes_to (or_right (passes_found (entry_under r (entry_id k))) _ (any_of (λ (l : Link). comes_by n buried l k) buried.graph link there (λ i. on i && (among i && let_by i))))
+        comes_to (or_right (passes_found (entry_under r (entry_id k))) _ (any_has (λ (l : Link). comes_by n buried l k) buried.graph link there (λ i. on i && (among i && let_by i))))
 
     above_by : is_above reached left.tables x ≡ true → stands h3 (entry_id k) ≡ true
     above_by h =

@@ -25,7 +25,8 @@ use Rattle.ep_kernel.specs.Control.{Settles}
 use Rattle.ep_kernel.specs.Listed.{HavePlaces, HopesFor, key_shows, shows_found}
 use Rattle.ep_kernel.specs.Push.{Gains}
 use Rattle.ep_kernel.specs.Turns.{AlteredStand, HopesGo}
-use Rattle.ep_ready.specs.ReadyLists.{GainsPlace, IsSound as AreSound, Lists, LosesPlace, Same, entry_id, instance_at, stands}
+use Rattle.ep_rings.specs.KeyWalk.{entry_id}
+use Rattle.ep_ready.specs.ReadyLists.{GainsPlace, IsSound as AreSound, Lists, LosesPlace, Same, instance_at, stands}
 use Rattle.ep_table.specs.Value.{Sound}
 
 -- what holds of either result

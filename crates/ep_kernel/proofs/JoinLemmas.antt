@@ -5,6 +5,11 @@ use Rattle.std.specs.Option.{option_map}
 use Rattle.std.proofs.lemmas.Bool.{cases_Bool, false≢true}
 use Rattle.std.proofs.lemmas.List.{append_assoc}
 use Rattle.std.proofs.lemmas.List.Elements.{filter-append}
+use Rattle.ep_facts.proofs.NatFacts.{from_test, same_test}
+use Rattle.ep_facts.proofs.AmongFacts.{among_append}
+use Rattle.ep_facts.proofs.OptionFacts.{none_is_some}
+use Rattle.ep_facts.proofs.BoolFacts.{first_of_and, from_not_and, or_left, or_right, second_of_and}
+use Rattle.ep_facts.proofs.ListFacts.{filter_two}
 use Rattle.ep_base.specs.declared.call.Event.{Event}
 use Rattle.ep_base.specs.declared.ids.DescId.{DescId}
 use Rattle.ep_base.specs.declared.ids.EntryId.{EntryId}
@@ -26,8 +31,7 @@ use Rattle.ep_kernel.specs.Listed.{HavePlaces, MayStand, key_shows, order_at}
 use Rattle.ep_kernel.specs.Places.{LosesDying}
 use Rattle.ep_kernel.specs.Push.{Gains, comes_in, is_home}
 use Rattle.ep_kernel.specs.Turns.{Turns}
-use Rattle.ep_law.proofs.ListLemmas.{among, among_member, among_split, filtered_member}
-use Rattle.ep_law.proofs.TestLemmas.{from_test, or_right}
+use Rattle.ep_law.proofs.ListLemmas.{among, among_member, filtered_member}
 use Rattle.ep_law.specs.Laws.{Member, is_reportable_in}
 use Rattle.ep_machine.specs.Lists.{are_distinct, is_among}
 use Rattle.ep_machine.specs.State.{State}
@@ -39,8 +43,7 @@ use Rattle.ep_calls.proofs.PassLemmas.{left_member, noted_watch, passes_is}
 use Rattle.ep_kernel.proofs.SurvivalLemmas.{climb, climbed_back, comes_if, may_watch}
 use Rattle.ep_kernel.proofs.ViewLemmas.{one_view, view_at}
 use Rattle.ep_kernel.specs.Listed.{shows_found}
-use Rattle.ep_law.proofs.ListLemmas.{member_filter, member_map, second_of_and}
-use Rattle.ep_law.proofs.TestLemmas.{or_left, same_test}
+use Rattle.ep_law.proofs.ListLemmas.{member_filter, member_map}
 use Rattle.ep_law.specs.Laws.{passes_on_of}
 use Rattle.ep_machine.specs.Bits.{ET, has_bit, when}
 use Rattle.ep_machine.specs.Readiness.{is_reportable}
@@ -50,16 +53,11 @@ use Rattle.ep_order.specs.Event.{EndsReportable, IsAltered, Relists, end_of}
 use Rattle.ep_view.proofs.KernelViewLemmas.{reportable_kept}
 use Rattle.ep_view.specs.AtRest.{Changed, Remains}
 use Rattle.ep_view.specs.KernelView.{KernelWatch, carries, kernel_watch, reached_now, ready_now, shows}
-use Rattle.ep_ready.specs.ReadyLists.{IsSound as AreSoundLists, Lists, entry_id, instance_at, list_at, stands, stands_by}
+use Rattle.ep_rings.specs.KeyWalk.{entry_id}
+use Rattle.ep_ready.specs.ReadyLists.{IsSound as AreSoundLists, Lists, instance_at, list_at, stands, stands_by}
 use Rattle.ep_table.specs.Value.{Sound as SoundTables, number_under as desc_number}
 
 -- Lists.
-pub filter_two : (f g : ℕ → Bool) (xs : List ℕ) → filter g (filter f xs) ≡ filter (λ k. f k && g k) xs
-filter_two f g [] = refl
-filter_two f g (x ∷ xs) = with_one (f x) (filter_two f g xs) where
-  with_one : (b : Bool) → filter g (filter f xs) ≡ filter (λ k. f k && g k) xs → filter g (cond b (x ∷ filter f xs) (filter f xs)) ≡ cond (b && g x) (x ∷ filter (λ k. f k && g k) xs) (filter (λ k. f k && g k) xs)
-  with_one true rest = ap (λ (ys : List ℕ). cond (g x) (x ∷ ys) ys) rest
-  with_one false rest = rest
 
 numbers_append : (r : Registrations) (xs ys : List ℕ) → numbers_at r (xs ++ ys) ≡ numbers_at r xs ++ numbers_at r ys
 numbers_append r [] ys = refl
@@ -74,15 +72,12 @@ member_first x (y ∷ xs) ys (inr m) = inr (member_first x xs ys m)
 pub apart_lists : (xs ys : List ℕ) (k : ℕ) → are_distinct (xs ++ ys) ≡ true → is_among ys k ≡ true → is_among xs k ≡ false
 apart_lists [] ys k h t = refl
 apart_lists (x ∷ xs) ys k h t =
-    let apart = is_not (is_among (xs ++ ys) x) (are_distinct (xs ++ ys)) h in
+    let apart = from_not_and (is_among (xs ++ ys) x) (are_distinct (xs ++ ys)) h in
     let rest = apart_lists xs ys k apart.1 t in
     elim (cases_Bool (k == x)) [
-      | inl same ↦ absurd (false≢true (sym apart.0 ∙ (ap (is_among (xs ++ ys)) (sym (from_test k x same)) ∙ (among_split xs ys k ∙ or_right _ _ t))))
+      | inl same ↦ absurd (false≢true (sym apart.0 ∙ (ap (is_among (xs ++ ys)) (sym (from_test k x same)) ∙ (among_append xs ys k ∙ or_right _ _ t))))
       | inr other ↦ ap (λ (b : Bool). b || is_among xs k) other ∙ rest
-    ] where
-      is_not : (a b : Bool) → (not a && b) ≡ true → (a ≡ false) × (b ≡ true)
-      is_not true b e = absurd (false≢true e)
-      is_not false b e = (refl, e)
+    ]
 
 -- from the parts and lists before an event to those after it
 pub record Follows (n : ℕ) (event : Event) (outcome : Outcome) (old mid noted buried climbed new : Parts) (l0 l1 l2 l3 : Lists) : Type 0 where
@@ -136,16 +131,13 @@ module _ (n : ℕ) (event : Event) (outcome : Outcome) (old mid noted buried cli
   pub settled_is : new ≡ settled
   settled_is = settles.marked_others ∙ ap (λ (p : Parts). record p { parked = new.parked }) settles.climbed_others
 
-  none_some : (m : ℕ) (o : Option ℕ) → o ≡ None → o ≡ Some m → ⊥
-  none_some m o a b = absurd (let e : None ≡ Some m = sym a ∙ b in cc)
-
   -- a number under a key stood there after the change
   pub mid_number : (k m : ℕ) → number_under climbed.interest (entry_id k) ≡ Some m → number_under mid.interest (entry_id k) ≡ Some m
   mid_number k m h =
       let read = λ (ks : List (Option ℕ)). slice_index_or ks k None in
       let buried_number : number_under buried.interest (entry_id k) ≡ Some m = sym (ap read follows.climbed_keys) ∙ h in
       elim (follows.leaves.ids (entry_id k)) [
-        | inl none ↦ absurd (none_some m _ none buried_number)
+        | inl none ↦ absurd (none_is_some m _ none buried_number)
         | inr same ↦ sym (ap read follows.leaves.keys) ∙ (sym same ∙ buried_number)
       ]
 
@@ -206,7 +198,7 @@ module _ (n : ℕ) (event : Event) (outcome : Outcome) (old mid noted buried cli
         let after = (is_under climbed.interest (entry_id k) y.0 y.1).number in
         elim (old_number k y.0.number after) [
           | inl same ↦ after ∙ sym same
-          | inr new ↦ absurd (none_some x.0.number _ new.0 before)
+          | inr new ↦ absurd (none_is_some x.0.number _ new.0 before)
         ]
 
     numbered_before : AreNumbered old.interest old_keys
@@ -246,14 +238,10 @@ module _ (n : ℕ) (event : Event) (outcome : Outcome) (old mid noted buried cli
           keeps = stays_is old.interest follows.was keeps_key old_keys w.0 number numbered_before on (under ∙ ap (λ (m : ℕ). Some m) is);
         }
 
-    and_first : (a b : Bool) → (a && b) ≡ true → a ≡ true
-    and_first true b h = refl
-    and_first false b h = h
-
     pub unpicked : (number : ℕ) → is_among order_before number ≡ true → keeps_number number ≡ true → is_among outcome.picked number ≡ false
     unpicked number h keeps =
         let w = stood_by number h in
-        let stays = and_first (follows.turns.keeps w.k) _ (sym w.keeps ∙ keeps) in
+        let stays = first_of_and (follows.turns.keeps w.k) _ (sym w.keeps ∙ keeps) in
         ap (is_among outcome.picked) (sym w.is) ∙ follows.turns.unpicked i.0 w.k w.x w.on w.under stays
 
     pub apart : (number : ℕ) → is_among more_numbers number ≡ true → is_among (filter keeps_number order_before) number ≡ false
@@ -306,7 +294,7 @@ module _ (n : ℕ) (event : Event) (outcome : Outcome) (old mid noted buried cli
           let shows : key_shows old w.k ≡ true = key_is old s stands_before follows.was w.k w.x w.under ∙ ((λ j. is_reportable_in s (at j) (w.is j)) ∙ before) in
           elim (follows.turns.leaves i.0 w.k w.x w.on w.under leaves_key shows) [
             | inl picked ↦ ap (is_among outcome.picked) (sym w.is) ∙ picked
-            | inr none ↦ absurd (none_some number _ none (mid_number w.k number now))
+            | inr none ↦ absurd (none_is_some number _ none (mid_number w.k number now))
           ]
 
       -- after a change that is not refused

@@ -31,3 +31,4 @@ pub mod WaitedLemmas
 pub mod ArriveLemmas
 pub mod FewLemmas
 pub mod AddedLemmas
+pub mod WatchLemmas

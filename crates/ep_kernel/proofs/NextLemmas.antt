@@ -3,7 +3,9 @@ use Rattle.ep_calls.proofs.EntryLemmas.{holds_under}
 use Rattle.std.proofs.Common.{◌≡◌, ◌∙◌, ◌+◌, ◌==◌, ◌⊎◌, ◌++◌, ℕ, Bool, true, false, IsSome, List, [], ◌∷◌, None, Option, Some, ap, cond, filter, inl, inr, length, map, refl, subst, sym, unwrap_or}
 use Rattle.std.specs.Option.{option_map}
 use Rattle.std.specs.Prelude.{MatchOption}
-use Rattle.std.proofs.lemmas.Bool.{cases_Bool, false≢true}
+use Rattle.std.proofs.lemmas.Bool.{cases_Bool, false_from_ne_true, false≢true}
+use Rattle.ep_facts.proofs.BoolFacts.{or_left}
+use Rattle.ep_facts.proofs.AmongFacts.{among_append}
 use Rattle.ep_base.specs.declared.answer.Answer.{Answer}
 use Rattle.ep_base.specs.declared.call.Event.{Event}
 use Rattle.ep_base.specs.declared.errno.Errno.{Errno}
@@ -22,9 +24,8 @@ use Rattle.ep_kernel.proofs.JoinLemmas.{Follows, apart, burial, keeps_number, le
 use Rattle.ep_kernel.proofs.NumberLemmas.{complete_order, entry_at, has_reportables}
 use Rattle.ep_kernel.specs.Listed.{AreFair, HasReportables, IsListed, key_shows, order_at}
 use Rattle.ep_kernel.specs.Running.{Runs}
-use Rattle.ep_law.proofs.ListLemmas.{among, among_member, among_split, filtered_member, member_filter}
+use Rattle.ep_law.proofs.ListLemmas.{among, among_member, filtered_member, member_filter, member_split}
 use Rattle.ep_law.proofs.StepLemmas.{after_first, change_counted, change_n, refused_step, step_changed}
-use Rattle.ep_law.proofs.TestLemmas.{or_left}
 use Rattle.ep_law.specs.Laws.{Member, is_reportable_in}
 use Rattle.ep_machine.specs.Effect.{first}
 use Rattle.ep_machine.specs.Files.{Files, is_live}
@@ -38,7 +39,8 @@ use Rattle.ep_order.specs.Order.{IsComplete, IsFairOrder, Turns}
 use Rattle.ep_order.specs.Pick.{turns_of}
 use Rattle.ep_kernel.proofs.ViewLemmas.{Views}
 use Rattle.ep_view.specs.KernelView.{KernelWatch, kernel_watch}
-use Rattle.ep_ready.specs.ReadyLists.{Lists, entry_id, list_at, stands}
+use Rattle.ep_rings.specs.KeyWalk.{entry_id}
+use Rattle.ep_ready.specs.ReadyLists.{Lists, list_at, stands}
 use Rattle.ep_calls.proofs.KeyLemmas.{under_key}
 use Rattle.ep_interest.specs.Registrations.{number_under}
 use Rattle.ep_table.specs.Value.{number_under as desc_number}
@@ -46,10 +48,6 @@ use Rattle.ep_view.proofs.AtRestLemmas.{quiet_begun, quiet_change}
 use Rattle.ep_view.proofs.SettleLemmas.{settle_remains}
 
 -- An order behind whose end nothing reportable comes.
-member_either : (x : ℕ) (xs ys : List ℕ) → Member x (xs ++ ys) → Member x xs ⊎ Member x ys
-member_either x [] ys m = inr m
-member_either x (y ∷ xs) ys (inl e) = inl (inl e)
-member_either x (y ∷ xs) ys (inr m) = elim (member_either x xs ys m) [ inl a ↦ inl (inr a) | inr b ↦ inr b ]
 
 none_ready : (t : Turns) (ys : List ℕ) → ((y : ℕ) → Member y ys → t.ready y ≡ true → ⊥) → IsFairOrder t ys
 none_ready t [] h = tt
@@ -59,7 +57,7 @@ fair_kept : (t : Turns) (keeps : ℕ → Bool) (xs ys : List ℕ) → ((y : ℕ)
 fair_kept t keeps [] ys none h = none_ready t ys none
 fair_kept t keeps (x ∷ xs) ys none h = with_one (keeps x) (fair_kept t keeps xs ys none h.1) where
   with_one : (b : Bool) → IsFairOrder t (filter keeps xs ++ ys) → IsFairOrder t (cond b (x ∷ filter keeps xs) (filter keeps xs) ++ ys)
-  with_one true rest = (λ y m r. elim (member_either y (filter keeps xs) ys m) [ inl a ↦ h.0 y (filtered_member keeps xs y a) r | inr b ↦ absurd (none y b r) ], rest)
+  with_one true rest = (λ y m r. elim (member_split y (filter keeps xs) ys m) [ inl a ↦ h.0 y (filtered_member keeps xs y a) r | inr b ↦ absurd (none y b r) ], rest)
   with_one false rest = rest
 
 cons_tail : (x : Record) (xs ys : List Record) → x ∷ xs ≡ x ∷ ys → xs ≡ ys
@@ -72,10 +70,6 @@ last_is (x ∷ xs) a b e = last_is xs a b (cons_tail x (xs ++ a ∷ []) (xs ++ b
 some_is : (o : Option ℕ) → (IsSome o) ⊎ (o ≡ None)
 some_is None = inr refl
 some_is (Some n) = inl refl
-
-not_both : (b : Bool) → (b ≡ true → ⊥) → b ≡ false
-not_both true h = absurd (h refl)
-not_both false h = refl
 
 module _ (law : ListsGoOn) (past : List Record) (n : ℕ) (event : Event) (outcome : Outcome) (old mid noted buried climbed new : Parts) (l0 l1 l2 l3 : Lists) (follows : Follows n event outcome old mid noted buried climbed new l0 l1 l2 l3)
     (caller : CallerId) (at : n ≡ length past + 1) (runs : Runs past old l0) (does : DoesAt (next_event runs.keeps.state) caller.0 event outcome old mid) where
@@ -133,7 +127,7 @@ module _ (law : ListsGoOn) (past : List Record) (n : ℕ) (event : Event) (outco
           absurd (false≢true (subst (λ (o : Option ℕ). IsSome o) none some))
 
     not_live : desc_number old.tables i ≡ None → is_live s.files e ≡ false
-    not_live none = not_both _ (λ live.
+    not_live none = false_from_ne_true _ (λ live.
         let key = follows.tables.keyed e (ap (λ (f : Files). is_live f e) (sym runs.keeps.stands.files) ∙ live) in
         let u = under_key buried.tables.keys i lives in
         let here : desc_number buried.tables i ≡ Some e = u.is ∙ ap (λ (m : ℕ). Some m) (sym (ap (λ (o : Option ℕ). unwrap_or o 0) u.is)) in
@@ -195,7 +189,7 @@ module _ (law : ListsGoOn) (past : List Record) (n : ℕ) (event : Event) (outco
         let none = λ (k : ℕ) (m : Member k more) (h : is_reportable_in s e k ≡ true).
         false≢true (sym (apart n event outcome old mid noted buried climbed new l0 l1 l2 l3 follows s t runs.keeps.stands stands_after runs.listed.places i k (among k more m)) ∙ there k h) in
         let fair : IsFairOrder (turns_of s e) now = subst (IsFairOrder (turns_of s e)) (sym is) (fair_kept (turns_of s e) keeps before more none fair_before) in
-        let complete : IsComplete (turns_of s e) now = subst (IsComplete (turns_of s e)) (sym is) (λ k h. among_split (filter keeps before) more k ∙ or_left _ _ (there k h)) in
+        let complete : IsComplete (turns_of s e) now = subst (IsComplete (turns_of s e)) (sym is) (λ k h. among_append (filter keeps before) more k ∙ or_left _ _ (there k h)) in
         subst (λ (u : Turns). IsFairOrder u now × IsComplete u now) (sym same) (fair, complete)
 
     by_cases : (o : Option Errno) → first (refusals old.tables.limits (next_event s) caller.0 event) ≡ o

@@ -1,9 +1,12 @@
 -- Lists of keys, and the lists of numbers that the machine knows them by.
 use Rattle.ep_calls.proofs.EntryLemmas.{holds_under}
-use Rattle.std.proofs.Common.{◌≡◌, ◌≢◌, ◌≤◌, ◌<◌, ◌∙◌, ◌==◌, ◌&&◌, ◌||◌, ℕ, Bool, true, false, not, IsSome, List, [], ◌∷◌, None, Option, Some, ap, arith, cond, filter, inl, inr, map, refl, slice_index_or, subst, sym, unwrap_or}
+use Rattle.std.proofs.Common.{◌≡◌, ◌≤◌, ◌<◌, ◌∙◌, ◌==◌, ◌&&◌, ◌||◌, ℕ, Bool, true, false, IsSome, List, [], ◌∷◌, None, Option, Some, ap, arith, cond, filter, inl, inr, map, refl, slice_index_or, subst, sym, unwrap_or}
 use Rattle.std.specs.Option.{option_map}
-use Rattle.std.proofs.lemmas.Bool.{cases_Bool, false≢true}
+use Rattle.std.proofs.lemmas.Bool.{cases_Bool, false_from_ne_true, false≢true}
 use Rattle.std.proofs.lemmas.Bool.Decides.{nat_tests}
+use Rattle.ep_facts.proofs.NatFacts.{from_test, same_nat, same_test}
+use Rattle.ep_facts.proofs.BoolFacts.{both_true, from_not_and, not_and}
+use Rattle.ep_facts.proofs.OptionFacts.{number_of}
 use Rattle.ep_base.specs.declared.ids.DescId.{DescId}
 use Rattle.ep_base.specs.declared.ids.EntryId.{EntryId}
 use Rattle.ep_calls.proofs.KeyLemmas.{same_keys}
@@ -15,14 +18,14 @@ use Rattle.ep_interest.specs.declared.entry.Entry.{Entry}
 use Rattle.ep_kernel.proofs.EntryLemmas.{is_under}
 use Rattle.ep_kernel.specs.Listed.{HasReportables, HavePlaces, key_shows, order_at, shows_found}
 use Rattle.ep_law.proofs.ListLemmas.{among, among_member, filtered_member, filtered_passes, member_filter, member_map}
-use Rattle.ep_law.proofs.TestLemmas.{both_true, from_test, same_nat, same_test}
 use Rattle.ep_law.specs.Laws.{Member, is_reportable_in}
 use Rattle.ep_machine.specs.Lists.{are_distinct, is_among}
 use Rattle.ep_machine.specs.Readiness.{reportables}
 use Rattle.ep_machine.specs.State.{State, Watch}
 use Rattle.ep_order.specs.Order.{IsComplete}
 use Rattle.ep_order.specs.Pick.{turns_of}
-use Rattle.ep_ready.specs.ReadyLists.{IsSound as AreSoundLists, Lists, entry_id, instance_at, list_at, stands, stands_by}
+use Rattle.ep_rings.specs.KeyWalk.{entry_id}
+use Rattle.ep_ready.specs.ReadyLists.{IsSound as AreSoundLists, Lists, instance_at, list_at, stands, stands_by}
 use Rattle.ep_table.specs.Value.{Sound as SoundTables, number_under as desc_number}
 use Rattle.ep_view.proofs.KernelViewLemmas.{reportables_kept}
 use Rattle.ep_view.specs.KernelView.{KernelWatch, kernel_watches, ready_now, shows_in}
@@ -35,21 +38,6 @@ numbers_at r ks = map (λ k. unwrap_or (number_under r (entry_id k)) 0) ks
 
 abbrev pub AreNumbered : Registrations → List ℕ → Type 0
 AreNumbered r ks = (k : ℕ) → Member k ks → IsSome (number_under r (entry_id k))
-
-pub number_of : (o : Option ℕ) → IsSome o → o ≡ Some (unwrap_or o 0)
-number_of None h = absurd (false≢true h)
-number_of (Some n) h = refl
-
-not_true : (a : Bool) → (a ≡ true → ⊥) → a ≡ false
-not_true true h = absurd (h refl)
-not_true false h = refl
-
-is_not : (a b : Bool) → (not a && b) ≡ true → (a ≡ false) × (b ≡ true)
-is_not true b h = cc
-is_not false b h = (refl, h)
-
-both : (a b : Bool) → a ≡ false → b ≡ true → (not a && b) ≡ true
-both a b h k = ap (λ (x : Bool). not x && b) h ∙ k
 
 pub number_member : (r : Registrations) (ks : List ℕ) (n : ℕ) → Member n (numbers_at r ks) → (k : ℕ) × Member k ks × (unwrap_or (number_under r (entry_id k)) 0 ≡ n)
 number_member r [] n m = absurd m
@@ -101,10 +89,10 @@ module _ (r : Registrations) (sound : IsSound r) where
   distinct_numbers [] numbered h = refl
   distinct_numbers (k ∷ ks) numbered h =
       let n = unwrap_or (number_under r (entry_id k)) 0 in
-      let apart = is_not (is_among ks k) (are_distinct ks) h in
+      let apart = from_not_and (is_among ks k) (are_distinct ks) h in
       let rest = distinct_numbers ks (λ j m. numbered j (inr m)) apart.1 in
-      let new : is_among (numbers_at r ks) n ≡ false = not_true _ (λ t. false≢true (sym apart.0 ∙ among_keys ks k n (λ j m. numbered j (inr m)) (number_of _ (numbered k (inl refl))) t)) in
-      both _ _ new rest
+      let new : is_among (numbers_at r ks) n ≡ false = false_from_ne_true _ (λ t. false≢true (sym apart.0 ∙ among_keys ks k n (λ j m. numbered j (inr m)) (number_of _ (numbered k (inl refl))) t)) in
+      not_and _ _ new rest
 
   filtered_numbered : (by_key : ℕ → Bool) (ks : List ℕ) → AreNumbered r ks → AreNumbered r (filter by_key ks)
   filtered_numbered by_key ks numbered k m = numbered k (filtered_member by_key ks k m)
@@ -119,7 +107,7 @@ module _ (r : Registrations) (sound : IsSound r) where
         let kept = among k (filter by_key ks) (member_filter by_key k ks (among_member ks k there) t) in
         among_numbers r (filter by_key ks) k n is kept ∙ sym t
     | inr f ↦
-        not_true _ (λ t.
+        false_from_ne_true _ (λ t.
         let kept = among_keys (filter by_key ks) k n (filtered_numbered by_key ks numbered) is t in
         false≢true (sym f ∙ filtered_passes by_key ks k (among_member (filter by_key ks) k kept))) ∙ sym f
   ]
@@ -179,7 +167,7 @@ module _ (keys : List (Option ℕ)) (test : KernelWatch → Bool) where
         ]
     | inr other ↦
         let later : numbered ys n ≡ Some x = sym (ap (λ (c : Bool). cond c (Some y) (numbered ys n)) other) ∙ is in
-        among_other y ys n (not_true _ (λ t. false≢true (sym other ∙ same_test y.number n (sym (from_test n y.number t))))) ∙ among_shown ys y.number n h.1 x later
+        among_other y ys n (false_from_ne_true _ (λ t. false≢true (sym other ∙ same_test y.number n (sym (from_test n y.number t))))) ∙ among_shown ys y.number n h.1 x later
   ]
 
   among_none : (xs : List Entry) (n : ℕ) → numbered xs n ≡ None → is_among (shown_numbers xs) n ≡ false
@@ -188,7 +176,7 @@ module _ (keys : List (Option ℕ)) (test : KernelWatch → Bool) where
     | inl here ↦ let found : Some y ≡ None = sym (ap (λ (c : Bool). cond c (Some y) (numbered ys n)) here) ∙ is in absurd (cc)
     | inr other ↦
         let later : numbered ys n ≡ None = sym (ap (λ (c : Bool). cond c (Some y) (numbered ys n)) other) ∙ is in
-        among_other y ys n (not_true _ (λ t. false≢true (sym other ∙ same_test y.number n (sym (from_test n y.number t))))) ∙ among_none ys n later
+        among_other y ys n (false_from_ne_true _ (λ t. false≢true (sym other ∙ same_test y.number n (sym (from_test n y.number t))))) ∙ among_none ys n later
   ]
 
 -- a registration of the instance with a number that is reportable

@@ -23,7 +23,8 @@ use Rattle.ep_machine.specs.Report.{is_pick}
 use Rattle.ep_machine.specs.State.{Change, State}
 use Rattle.ep_calls.specs.Stands.{number_at}
 use Rattle.ep_order.proofs.PickLemmas.{first_are_pick}
-use Rattle.ep_ready.specs.ReadyLists.{IsSound as AreSoundLists, Lists, entry_id, list_at}
+use Rattle.ep_rings.specs.KeyWalk.{entry_id}
+use Rattle.ep_ready.specs.ReadyLists.{IsSound as AreSoundLists, Lists, list_at}
 use Rattle.ep_table.specs.Value.{Sound as SoundTables, number_under as desc_number}
 
 -- from fewer states

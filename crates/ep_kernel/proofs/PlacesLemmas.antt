@@ -3,6 +3,10 @@ use Rattle.std.proofs.Common.{◌≡◌, ◌++◌, ◌||◌, ◌==◌, ◌∙◌
 use Rattle.std.specs.List.{list_any}
 use Rattle.std.proofs.lemmas.Bool.{cases_Bool, cases_eq}
 use Rattle.std.proofs.lemmas.List.{append_assoc}
+use Rattle.std.proofs.lemmas.Option.{none-some}
+use Rattle.std.proofs.Math.Bool.{or-false}
+use Rattle.ep_facts.proofs.BoolFacts.{or_assoc}
+use Rattle.ep_facts.proofs.NatFacts.{same_nat}
 use Rattle.ep_base.specs.declared.ids.DescId.{DescId}
 use Rattle.ep_base.specs.declared.ids.EntryId.{EntryId}
 use Rattle.ep_interest.specs.Passes.{has_id}
@@ -11,7 +15,7 @@ use Rattle.ep_interest.specs.declared.entry.Entry.{Entry}
 use Rattle.ep_machine.specs.Lists.{is_among}
 use Rattle.ep_kernel.specs.Places.{LosesPlaces, touches}
 use Rattle.ep_ready.specs.ReadyLists.{IsSound, Lists, LosesPlace, instance_at, list_at}
-use Rattle.ep_rings.proofs.FrontLemmas.{filter_gone}
+use Rattle.ep_rings.proofs.AmongLemmas.{filter_gone}
 
 pub loses_none : (l : Lists) → LosesPlaces (λ k. false) l l
 loses_none l = record { places = λ id. refl; lists = λ i. all_stay (list_at l i) } where
@@ -49,10 +53,6 @@ loses_same f g old new same a = record {
   lists = λ i. a.lists i ∙ filter_same f g same (list_at old i);
 }
 
--- one place
-same_nat : (k : ℕ) → (k == k) ≡ true
-same_nat k = search rules
-
 pub loses_one : (old new : Lists) (id : EntryId) → LosesPlace old new id → LosesPlaces (λ k. k == id.0) old new
 loses_one old new id h = record {
   places = λ k. elim (cases_eq k.0 id.0) [
@@ -71,12 +71,9 @@ loses_nothing l id sound none = record {
   ];
   lists = λ i. sym (filter_gone (list_at l i) id.0 (not_there i));
 } where
-  no_home : (i : ℕ) → None ≡ Some i → ⊥
-  no_home i h = absurd cc
-
   not_there : (i : ℕ) → is_among (list_at l i) id.0 ≡ false
   not_there i = elim (cases_Bool (is_among (list_at l i) id.0)) [
-    | inl there ↦ absurd (no_home i (sym none ∙ sound.own i id there))
+    | inl there ↦ absurd (none-some i (sym none ∙ sound.own i id there))
     | inr away ↦ away
   ]
 
@@ -89,16 +86,8 @@ pub record Loses (all : List EntryId) (rest : List EntryId) (old new : Lists) : 
 pub loses_first : (all : List EntryId) (l : Lists) → Loses all all l l
 loses_first all l = record { done = []; split = refl; loses = loses_none l }
 
-or_false : (b : Bool) → (b || false) ≡ b
-or_false true = refl
-or_false false = refl
-
-or_assoc : (a b c : Bool) → (a || (b || c)) ≡ ((a || b) || c)
-or_assoc true b c = refl
-or_assoc false b c = refl
-
 has_more : (ids : List EntryId) (id : EntryId) (k : ℕ) → (has_id ids k || k == id.0) ≡ has_id (ids ++ id ∷ []) k
-has_more [] id k = sym (or_false (k == id.0))
+has_more [] id k = sym (or-false (k == id.0))
 has_more (x ∷ ids) id k = sym (or_assoc (nat_eq k x.0) (has_id ids k) (k == id.0)) ∙ ap (λ (b : Bool). nat_eq k x.0 || b) (has_more ids id k)
 
 pub loses_more : (all : List EntryId) (id : EntryId) (rest : List EntryId) (old mid new : Lists) → Loses all (id ∷ rest) old mid → LosesPlaces (λ k. k == id.0) mid new → Loses all rest old new
@@ -124,7 +113,7 @@ pub each_first : (r : Registrations) (all : List DescId) (l : Lists) → LosesEa
 each_first r all l = record { done = []; split = refl; loses = loses_none l }
 
 touched_more : (r : Registrations) (ds : List DescId) (d : DescId) (k : ℕ) → (touched r ds k || touches r d k) ≡ touched r (ds ++ d ∷ []) k
-touched_more r [] d k = sym (or_false (touches r d k))
+touched_more r [] d k = sym (or-false (touches r d k))
 touched_more r (x ∷ ds) d k = sym (or_assoc (touches r x k) (touched r ds k) (touches r d k)) ∙ ap (λ (b : Bool). touches r x k || b) (touched_more r ds d k)
 
 pub each_more : (r : Registrations) (all : List DescId) (d : DescId) (rest : List DescId) (old mid new : Lists) → LosesEach r all (d ∷ rest) old mid → LosesPlaces (touches r d) mid new → LosesEach r all rest old new

@@ -2,28 +2,23 @@
 use Rattle.std.proofs.Common.{◌≡◌, ◌≢◌, ◌≤◌, ◌<◌, ◌∙◌, ◌==◌, ◌&&◌, ℕ, Bool, true, false, List, [], ◌∷◌, None, Option, Some, ap, arith, cond, filter, inl, inr, length, not, refl, sym, unwrap_or}
 use Rattle.std.proofs.lemmas.Bool.{cases_Bool, cases_eq, false≢true}
 use Rattle.std.proofs.lemmas.List.{get_or-set_other, get_or-set_same}
+use Rattle.std.proofs.Math.Bool.{and-false}
+use Rattle.ep_facts.proofs.NatFacts.{same_nat, test_apart}
+use Rattle.ep_facts.proofs.ListFacts.{filter_two}
 use Rattle.ep_base.specs.declared.ids.EntryId.{EntryId}
 use Rattle.ep_calls.specs.Parts.{Parts}
-use Rattle.ep_climb.proofs.SetLemmas.{apart_nat}
 use Rattle.ep_kernel.specs.Listed.{HopesFor, key_shows}
 use Rattle.ep_kernel.specs.Readiness.{Prunes}
 use Rattle.ep_law.proofs.ListLemmas.{among, among_member, member_filter}
-use Rattle.ep_law.proofs.TestLemmas.{same_nat}
 use Rattle.ep_machine.specs.Lists.{is_among}
-use Rattle.ep_ready.specs.ReadyLists.{IsSound as AreSound, Lists, after_removal, entry_id, front_in, instance_at, list_at, removal_by, stands, stands_by, with_list}
-use Rattle.ep_rings.proofs.FrontLemmas.{filter_gone}
+use Rattle.ep_rings.specs.KeyWalk.{entry_id}
+use Rattle.ep_ready.specs.ReadyLists.{IsSound as AreSound, Lists, after_removal, front_in, instance_at, list_at, removal_by, stands, stands_by, with_list}
+use Rattle.ep_rings.proofs.AmongLemmas.{filter_gone}
 
 -- Lists of keys.
 all_kept : (xs : List ℕ) → xs ≡ filter (λ k. true) xs
 all_kept [] = refl
 all_kept (x ∷ xs) = ap (λ (ys : List ℕ). x ∷ ys) (all_kept xs)
-
-kept_twice : (f g : ℕ → Bool) (xs : List ℕ) → filter g (filter f xs) ≡ filter (λ k. f k && g k) xs
-kept_twice f g [] = refl
-kept_twice f g (x ∷ xs) = with_one (f x) (kept_twice f g xs) where
-  with_one : (b : Bool) → filter g (filter f xs) ≡ filter (λ k. f k && g k) xs → filter g (cond b (x ∷ filter f xs) (filter f xs)) ≡ cond (b && g x) (x ∷ filter (λ k. f k && g k) xs) (filter (λ k. f k && g k) xs)
-  with_one true rest = ap (λ (ys : List ℕ). cond (g x) (x ∷ ys) ys) rest
-  with_one false rest = rest
 
 no_longer : (f : ℕ → Bool) (xs : List ℕ) → length (filter f xs) ≤ length xs
 no_longer f [] = omega arith
@@ -54,7 +49,7 @@ pub prunes_both : (old mid new : Lists) → Prunes old mid → Prunes mid new �
 prunes_both old mid new a b = record {
   keeps = λ k. a.keeps k && b.keeps k;
   places = λ id. b.places id ∙ a.places id;
-  lists = λ i. b.lists i ∙ (ap (filter b.keeps) (a.lists i) ∙ kept_twice a.keeps b.keeps (list_at old i));
+  lists = λ i. b.lists i ∙ (ap (filter b.keeps) (a.lists i) ∙ filter_two a.keeps b.keeps (list_at old i));
 }
 
 -- what stays, stands
@@ -107,7 +102,7 @@ module _ (l : Lists) (sound : AreSound l) (id : EntryId) where
         places = λ k. prunes.places k ∙ hopes.places k;
         complete = λ k shows.
             let other : k ≢ id.0 = λ e. false≢true (sym hides ∙ (ap (key_shows p) (sym e) ∙ shows)) in
-            stands_left l m stays k (prunes.places (entry_id k)) prunes.lists (ap not (apart_nat k id.0 other)) (hopes.complete k shows);
+            stands_left l m stays k (prunes.places (entry_id k)) prunes.lists (ap not (test_apart k id.0 other)) (hopes.complete k shows);
       }
 
 -- the list of the first is shorter without it, whatever else left it
@@ -115,12 +110,8 @@ pub shorter_without : (old mid new : Lists) (sound : AreSound mid) (id : EntryId
 unfolding prunes_both prunes_one
 shorter_without old mid new sound id i rest front prunes is =
     let both = prunes_both old mid new prunes (prunes_one mid sound id new is) in
-    let goes : both.keeps id.0 ≡ false = ap (λ (b : Bool). prunes.keeps id.0 && b) (leaves_one mid sound id) ∙ and_false (prunes.keeps id.0) in
+    let goes : both.keeps id.0 ≡ false = ap (λ (b : Bool). prunes.keeps id.0 && b) (leaves_one mid sound id) ∙ and-false (prunes.keeps id.0) in
     let less = shorter both.keeps id.0 rest goes in
     let now : length (list_at new i) ≡ length (filter both.keeps (id.0 ∷ rest)) = ap length (both.lists i ∙ ap (filter both.keeps) front) in
     let was : length (list_at old i) ≡ length (id.0 ∷ rest) = ap length front in
     omega (arith, less, now, was)
-  where
-    and_false : (b : Bool) → (b && false) ≡ false
-    and_false true = refl
-    and_false false = refl

@@ -1,9 +1,14 @@
 -- What comes to the end of lists, one after another.
-use Rattle.std.proofs.Common.{◌≡◌, ◌≢◌, ◌<◌, ◌++◌, ◌&&◌, ◌||◌, ◌==◌, ◌∙◌, ◌+◌, ℕ, zero, suc, Bool, true, false, List, [], ◌∷◌, IsSome, None, Option, Some, ap, append-nil, arith, cond, get_or, inl, inr, length, nat_eq, nat_lt, refl, rules, subst, sym, take}
+use Rattle.std.proofs.Common.{◌≡◌, ◌≢◌, ◌<◌, ◌++◌, ◌&&◌, ◌||◌, ◌==◌, ◌∙◌, ◌+◌, ℕ, zero, suc, Bool, true, false, List, [], ◌∷◌, IsSome, None, Option, Some, ap, append-nil, arith, cond, get_or, inl, inr, length, nat_eq, nat_lt, refl, subst, sym, take}
 use Rattle.std.specs.List.{list_any}
 use Rattle.std.specs.Option.{option_map}
 use Rattle.std.proofs.lemmas.Bool.{cases_eq}
 use Rattle.std.proofs.lemmas.List.{append_assoc, get_or-set_other, get_or-set_same}
+use Rattle.std.proofs.Math.Bool.{and-false, and-false as none, and-true, or-false}
+use Rattle.std.proofs.Math.Numerals.{suc-eq-add-one}
+use Rattle.ep_facts.proofs.AmongFacts.{among_end}
+use Rattle.ep_facts.proofs.NatFacts.{same_nat, test_apart}
+use Rattle.ep_facts.proofs.BoolFacts.{or_assoc}
 use Rattle.ep_base.specs.declared.ids.EntryId.{EntryId}
 use Rattle.ep_interest.specs.Passes.{has_id, passes_on}
 use Rattle.ep_interest.specs.Registrations.{Registrations, entry_under}
@@ -11,24 +16,11 @@ use Rattle.ep_interest.specs.declared.entry.Entry.{Entry}
 use Rattle.ep_machine.specs.Lists.{is_among}
 use Rattle.ep_kernel.specs.Listed.{HavePlaces, may_stand}
 use Rattle.ep_kernel.specs.Push.{Gains, is_home, passes_found}
-use Rattle.ep_ready.specs.ReadyLists.{IsSound, Lists, after_push, entry_id, instance_at, list_at, push_by, with_list}
-
-or_false : (b : Bool) → (b || false) ≡ b
-or_false true = refl
-or_false false = refl
-
-or_assoc : (a b c : Bool) → (a || (b || c)) ≡ ((a || b) || c)
-or_assoc true b c = refl
-or_assoc false b c = refl
-
-same_nat : (k : ℕ) → (k == k) ≡ true
-same_nat k = search rules
-
-apart_nat : (j k : ℕ) → j ≢ k → (j == k) ≡ false
-apart_nat j k ne = search rules
+use Rattle.ep_rings.specs.KeyWalk.{entry_id}
+use Rattle.ep_ready.specs.ReadyLists.{IsSound, Lists, after_push, instance_at, list_at, push_by, with_list}
 
 pub gains_none : (l : Lists) → Gains (λ k. false) l l
-gains_none l = record { places = λ id. refl; more = λ i. []; lists = λ i. sym (append-nil (list_at l i)); each = λ i k. sym (or_false (is_among (list_at l i) k)) }
+gains_none l = record { places = λ id. refl; more = λ i. []; lists = λ i. sym (append-nil (list_at l i)); each = λ i k. sym (or-false (is_among (list_at l i) k)) }
 
 pub gains_same : (f g : ℕ → Bool) (old new : Lists) → ((k : ℕ) → f k ≡ g k) → Gains f old new → Gains g old new
 gains_same f g old new same a = record {
@@ -57,9 +49,6 @@ gains_both f g old mid new a b = record {
 }
 
 -- Of one registration.
-among_end : (ks : List ℕ) (n k : ℕ) → is_among (ks ++ n ∷ []) k ≡ (is_among ks k || k == n)
-among_end [] n k = or_false (k == n)
-among_end (x ∷ ks) n k = ap (λ (b : Bool). k == x || b) (among_end ks n k) ∙ or_assoc (k == x) (is_among ks k) (k == n)
 
 module _ (l : Lists) (sound : IsSound l) (id : EntryId) (i : ℕ) (at : instance_at l id ≡ Some i) where
   within : i < length l.lists
@@ -69,24 +58,18 @@ module _ (l : Lists) (sound : IsSound l) (id : EntryId) (i : ℕ) (at : instance
   not_here : (j k : ℕ) → j ≢ i → is_among (list_at l j) k ≡ (is_among (list_at l j) k || k == id.0 && is_home j (instance_at l (entry_id k)))
   not_here j k other = elim (cases_eq k id.0) [
     | inl is ↦
-        let home : is_home j (instance_at l (entry_id k)) ≡ false = ap (λ (n : ℕ). is_home j (instance_at l (entry_id n))) is ∙ (ap (is_home j) at ∙ apart_nat i j (λ e. other (sym e))) in
-        sym (ap (λ (b : Bool). is_among (list_at l j) k || k == id.0 && b) home ∙ (ap (λ (b : Bool). is_among (list_at l j) k || b) (and_false (k == id.0)) ∙ or_false (is_among (list_at l j) k)))
-    | inr ne ↦ sym (ap (λ (b : Bool). is_among (list_at l j) k || b && is_home j (instance_at l (entry_id k))) (apart_nat k id.0 ne) ∙ or_false (is_among (list_at l j) k))
-  ] where
-    and_false : (b : Bool) → (b && false) ≡ false
-    and_false true = refl
-    and_false false = refl
+        let home : is_home j (instance_at l (entry_id k)) ≡ false = ap (λ (n : ℕ). is_home j (instance_at l (entry_id n))) is ∙ (ap (is_home j) at ∙ test_apart i j (λ e. other (sym e))) in
+        sym (ap (λ (b : Bool). is_among (list_at l j) k || k == id.0 && b) home ∙ (ap (λ (b : Bool). is_among (list_at l j) k || b) (and-false (k == id.0)) ∙ or-false (is_among (list_at l j) k)))
+    | inr ne ↦ sym (ap (λ (b : Bool). is_among (list_at l j) k || b && is_home j (instance_at l (entry_id k))) (test_apart k id.0 ne) ∙ or-false (is_among (list_at l j) k))
+  ]
 
   comes_here : (k : ℕ) → (k == id.0 && is_home i (instance_at l (entry_id k))) ≡ (k == id.0)
   comes_here k = elim (cases_eq k id.0) [
     | inl is ↦
         let home : is_home i (instance_at l (entry_id k)) ≡ true = ap (λ (n : ℕ). is_home i (instance_at l (entry_id n))) is ∙ (ap (is_home i) at ∙ same_nat i) in
-        ap (λ (b : Bool). k == id.0 && b) home ∙ and_true (k == id.0)
-    | inr ne ↦ ap (λ (b : Bool). b && is_home i (instance_at l (entry_id k))) (apart_nat k id.0 ne) ∙ sym (apart_nat k id.0 ne)
-  ] where
-    and_true : (b : Bool) → (b && true) ≡ b
-    and_true true = refl
-    and_true false = refl
+        ap (λ (b : Bool). k == id.0 && b) home ∙ and-true (k == id.0)
+    | inr ne ↦ ap (λ (b : Bool). b && is_home i (instance_at l (entry_id k))) (test_apart k id.0 ne) ∙ sym (test_apart k id.0 ne)
+  ]
 
   stood : is_among (list_at l i) id.0 ≡ true → Gains (λ k. k == id.0) l l
   stood there = record {
@@ -101,7 +84,7 @@ module _ (l : Lists) (sound : IsSound l) (id : EntryId) (i : ℕ) (at : instance
     on : (k : ℕ) → is_among (list_at l i) k ≡ (is_among (list_at l i) k || k == id.0)
     on k = elim (cases_eq k id.0) [
       | inl is ↦ let here : is_among (list_at l i) k ≡ true = ap (is_among (list_at l i)) is ∙ there in here ∙ sym (ap (λ (b : Bool). b || k == id.0) here)
-      | inr ne ↦ sym (ap (λ (b : Bool). is_among (list_at l i) k || b) (apart_nat k id.0 ne) ∙ or_false (is_among (list_at l i) k))
+      | inr ne ↦ sym (ap (λ (b : Bool). is_among (list_at l i) k || b) (test_apart k id.0 ne) ∙ or-false (is_among (list_at l i) k))
     ]
 
   abbrev pushed : Lists
@@ -119,7 +102,7 @@ module _ (l : Lists) (sound : IsSound l) (id : EntryId) (i : ℕ) (at : instance
     more = λ j. cond (j == i) (id.0 ∷ []) [];
     lists = λ j. elim (cases_eq j i) [
       | inl is ↦ ap (list_at pushed) is ∙ (here_now ∙ sym ((λ t. list_at l (is t) ++ cond (is t == i) (id.0 ∷ []) []) ∙ ap (λ (b : Bool). list_at l i ++ cond b (id.0 ∷ []) []) (same_nat i)))
-      | inr ne ↦ there_now j ne ∙ sym (ap (λ (b : Bool). list_at l j ++ cond b (id.0 ∷ []) []) (apart_nat j i ne) ∙ append-nil (list_at l j))
+      | inr ne ↦ there_now j ne ∙ sym (ap (λ (b : Bool). list_at l j ++ cond b (id.0 ∷ []) []) (test_apart j i ne) ∙ append-nil (list_at l j))
     ];
     each = λ j k. elim (cases_eq j i) [
       | inl is ↦
@@ -149,23 +132,17 @@ pub gains_if : (q : ℕ → Bool) (id : EntryId) (old new : Lists) → q id.0 �
 gains_if q id old new t a = gains_same (λ k. k == id.0) (λ k. k == id.0 && q k) old new only a where
   only : (k : ℕ) → (k == id.0) ≡ (k == id.0 && q k)
   only k = elim (cases_eq k id.0) [
-    | inl is ↦ sym (ap (λ (b : Bool). k == id.0 && b) (ap q is ∙ t) ∙ and_true (k == id.0))
-    | inr ne ↦ apart_nat k id.0 ne ∙ sym (ap (λ (b : Bool). b && q k) (apart_nat k id.0 ne))
-  ] where
-    and_true : (b : Bool) → (b && true) ≡ b
-    and_true true = refl
-    and_true false = refl
+    | inl is ↦ sym (ap (λ (b : Bool). k == id.0 && b) (ap q is ∙ t) ∙ and-true (k == id.0))
+    | inr ne ↦ test_apart k id.0 ne ∙ sym (ap (λ (b : Bool). b && q k) (test_apart k id.0 ne))
+  ]
 
 pub gains_not : (q : ℕ → Bool) (id : EntryId) (l : Lists) → q id.0 ≡ false → Gains (λ k. k == id.0 && q k) l l
 gains_not q id l f = gains_same (λ k. false) (λ k. k == id.0 && q k) l l never (gains_none l) where
   never : (k : ℕ) → false ≡ (k == id.0 && q k)
   never k = elim (cases_eq k id.0) [
-    | inl is ↦ sym (ap (λ (b : Bool). k == id.0 && b) (ap q is ∙ f) ∙ and_false (k == id.0))
-    | inr ne ↦ sym (ap (λ (b : Bool). b && q k) (apart_nat k id.0 ne))
-  ] where
-    and_false : (b : Bool) → (b && false) ≡ false
-    and_false true = refl
-    and_false false = refl
+    | inl is ↦ sym (ap (λ (b : Bool). k == id.0 && b) (ap q is ∙ f) ∙ and-false (k == id.0))
+    | inr ne ↦ sym (ap (λ (b : Bool). b && q k) (test_apart k id.0 ne))
+  ]
 
 pub have_still : (r : Registrations) (comes : ℕ → Bool) (old new : Lists) → HavePlaces r old → Gains comes old new → HavePlaces r new
 have_still r comes old new have a id = a.places id ∙ have id
@@ -180,15 +157,12 @@ pub over_first : (q : ℕ → Bool) (all : List EntryId) (l : Lists) → GainsOv
 over_first q all l = record { done = []; split = refl; gains = gains_none l }
 
 has_more : (ids : List EntryId) (id : EntryId) (k : ℕ) → has_id (ids ++ id ∷ []) k ≡ (has_id ids k || k == id.0)
-has_more [] id k = or_false (k == id.0)
+has_more [] id k = or-false (k == id.0)
 has_more (x ∷ ids) id k = ap (λ (b : Bool). nat_eq k x.0 || b) (has_more ids id k) ∙ or_assoc (nat_eq k x.0) (has_id ids k) (k == id.0)
 
 and_or : (a b q : Bool) → (a && q || b && q) ≡ ((a || b) && q)
 and_or true b true = refl
-and_or true b false = none b where
-  none : (b : Bool) → (b && false) ≡ false
-  none true = refl
-  none false = refl
+and_or true b false = none b
 and_or false b q = refl
 
 pub over_more : (q : ℕ → Bool) (all : List EntryId) (id : EntryId) (rest : List EntryId) (old mid new : Lists) → GainsOver q all (id ∷ rest) old mid → Gains (λ k. k == id.0 && q k) mid new → GainsOver q all rest old new
@@ -208,11 +182,8 @@ take_next [] i d lt = absurd (omega arith)
 take_next (x ∷ xs) zero d lt = refl
 take_next (x ∷ xs) (suc i) d lt = ap (λ ys. x ∷ ys) (take_next xs i d (omega arith))
 
-next_count : (i : ℕ) → suc i ≡ i + 1
-next_count i = omega arith
-
 pub take_more : {A : Type 0} (xs : List A) (i : ℕ) (d : A) → i < length xs → take (i + 1) xs ≡ take i xs ++ get_or xs i d ∷ []
-take_more xs i d lt = ap (λ n. take n xs) (sym (next_count i)) ∙ take_next xs i d lt
+take_more xs i d lt = ap (λ n. take n xs) (sym (suc-eq-add-one i)) ∙ take_next xs i d lt
 
 pub gains_next : (q : ℕ → Bool) (xs : List EntryId) (i : ℕ) (d : EntryId) (old mid new : Lists) → i < length xs → Gains (λ k. has_id (take i xs) k && q k) old mid → Gains (λ k. k == (get_or xs i d).0 && q k) mid new → Gains (λ k. has_id (take (i + 1) xs) k && q k) old new
 gains_next q xs i d old mid new lt a b =
@@ -221,7 +192,7 @@ gains_next q xs i d old mid new lt a b =
     (gains_both (λ k. has_id (take i xs) k && q k) (λ k. k == (get_or xs i d).0 && q k) old mid new a b)
 
 any_more : {A : Type 0} (f : A → Bool) (xs : List A) (x : A) → list_any f (xs ++ x ∷ []) ≡ (list_any f xs || f x)
-any_more f [] x = or_false (f x)
+any_more f [] x = or-false (f x)
 any_more f (y ∷ xs) x = ap (λ (b : Bool). f y || b) (any_more f xs x) ∙ or_assoc (f y) (list_any f xs) (f x)
 
 pub any_next : {A : Type 0} (f : A → ℕ → Bool) (xs : List A) (i : ℕ) (d : A) (old mid new : Lists) → i < length xs → Gains (λ k. list_any (λ x. f x k) (take i xs)) old mid → Gains (f (get_or xs i d)) mid new → Gains (λ k. list_any (λ x. f x k) (take (i + 1) xs)) old new

@@ -4,6 +4,8 @@ use Rattle.std.proofs.Common.{◌≡◌, ◌<◌, ◌∙◌, ◌==◌, ◌&&◌,
 use Rattle.std.specs.List.{list_any}
 use Rattle.std.specs.Option.{option_map}
 use Rattle.std.proofs.lemmas.Bool.{cases_Bool}
+use Rattle.ep_facts.proofs.NatFacts.{from_test, same_test}
+use Rattle.ep_facts.proofs.BoolFacts.{both_true, same_bools}
 use Rattle.ep_base.specs.declared.ids.DescId.{DescId}
 use Rattle.ep_calls.proofs.KeyLemmas.{same_keys}
 use Rattle.ep_calls.proofs.IsBelowLemmas.{any_both, link_there, shows_same}
@@ -15,18 +17,18 @@ use Rattle.ep_calls.specs.Stands.{IsLinked, number_at, watch_at}
 use Rattle.ep_interest.specs.Registrations.{IsSound, entry_under}
 use Rattle.ep_interest.specs.declared.entry.Entry.{Entry}
 use Rattle.ep_kernel.proofs.EntryLemmas.{is_under}
-use Rattle.ep_kernel.proofs.ViewLemmas.{any_of, entry_views, find_entry, same_bools, view_member, view_of}
+use Rattle.ep_kernel.proofs.ViewLemmas.{entry_views, find_entry, view_member, view_of}
 use Rattle.ep_kernel.specs.Listed.{HopesFor, key_shows, shows_found}
 use Rattle.ep_kernel.specs.Readiness.{EndsWithin, found_shows, nested_found}
-use Rattle.ep_law.proofs.ListLemmas.{all_member, among, among_member, any_member}
+use Rattle.ep_law.proofs.ListLemmas.{all_member, among, among_member, any_has, any_member}
 use Rattle.ep_law.proofs.ReadinessLemmas.{and_same}
-use Rattle.ep_law.proofs.TestLemmas.{both_true, from_test, same_test}
 use Rattle.ep_law.specs.Laws.{Member}
 use Rattle.ep_machine.specs.Lists.{is_among}
 use Rattle.ep_machine.specs.Watches.{is_legal}
 use Rattle.ep_nest.proofs.LegalityLemmas.{short_from_is_legal}
 use Rattle.ep_nest.specs.Links.{edges}
-use Rattle.ep_ready.specs.ReadyLists.{IsSound as AreSoundLists, Lists, entry_id, instance_at, list_at, stands_by}
+use Rattle.ep_rings.specs.KeyWalk.{entry_id}
+use Rattle.ep_ready.specs.ReadyLists.{IsSound as AreSoundLists, Lists, instance_at, list_at, stands_by}
 use Rattle.ep_table.specs.Value.{Sound as SoundTables, number_under as desc_number}
 use Rattle.ep_view.specs.KernelView.{KernelWatch, ready_now, ready_within, shows}
 
@@ -99,7 +101,7 @@ module _ (p : Parts) (l : Lists) (coherent : AreCoherent p) (tables : SoundTable
         let x = listed_entry i.0 m.0 m.1 in
         let at : (number_at p.tables.keys x.0.instance == e) ≡ true = same_test _ _ (ap (λ (j : ℕ). number_at p.tables.keys (record { 0 = j })) x.2) in
         let is = sym (ap (shows_found p) x.1) ∙ m.2 in
-        any_of test watches (watch_at p.tables.keys x.0) (view_member p.tables.keys p.interest m.0 (watch_at p.tables.keys x.0) (entry_views p.tables.keys p.interest m.0 x.0 x.1)) (λ j. at j && is j)
+        any_has test watches (watch_at p.tables.keys x.0) (view_member p.tables.keys p.interest m.0 (watch_at p.tables.keys x.0) (entry_views p.tables.keys p.interest m.0 x.0 x.1)) (λ j. at j && is j)
 
     back : list_any test watches ≡ true → list_any (key_shows p) (list_at l i.0) ≡ true
     back t =
@@ -113,7 +115,7 @@ module _ (p : Parts) (l : Lists) (coherent : AreCoherent p) (tables : SoundTable
         let number : number_at p.tables.keys x.instance ≡ e = ap (λ (u : KernelWatch). u.instance) v.1.is ∙ from_test _ _ w.0 in
         let link = (holds_under (IsLinked p.tables.keys) p.interest (entry_id k) x coherent.linked v.1.under).instance in
         let same = from_test x.instance.0 i.0 (sym (same_keys p.tables x.instance i tables link lives) ∙ same_test _ _ number) in
-        any_of (key_shows p) (list_at l i.0) k (among_member (list_at l i.0) k (subst (λ (j : ℕ). is_among (list_at l j) k ≡ true) same on)) now
+        any_has (key_shows p) (list_at l i.0) k (among_member (list_at l i.0) k (subst (λ (j : ℕ). is_among (list_at l j) k ≡ true) same on)) now
 
     -- something on the list is reportable exactly where the instance is ready
     pub listed_ready : is_legal (edges p.graph) ≡ true → list_any (key_shows p) (list_at l i.0) ≡ ready_key p.tables p.clock p.interest i.0

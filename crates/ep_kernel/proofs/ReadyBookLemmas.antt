@@ -3,6 +3,10 @@ use Rattle.ep_law.proofs.GraphLemmas.{member_of_map}
 use Rattle.ep_calls.proofs.EntryLemmas.{holds_under}
 use Rattle.std.proofs.Common.{◌≡◌, ◌∙◌, ◌==◌, ◌||◌, ◌⊎◌, ℕ, zero, suc, Bool, true, false, not, List, [], ◌∷◌, None, Option, Some, ap, cond, inl, inr, map, refl, slice_index_or, subst, sym, unwrap_or}
 use Rattle.std.proofs.lemmas.Bool.{cases_Bool, false≢true}
+use Rattle.std.proofs.lemmas.Option.{none-some}
+use Rattle.ep_facts.proofs.BoolFacts.{both_true}
+use Rattle.ep_facts.proofs.NatFacts.{from_test, same_nat, suc_same, suc_zero, test_apart}
+use Rattle.ep_facts.proofs.OptionFacts.{some_same}
 use Rattle.ep_base.specs.declared.ids.DescId.{DescId}
 use Rattle.ep_calls.proofs.KeyLemmas.{under_key}
 use Rattle.ep_calls.specs.Moves.{StandFor}
@@ -16,32 +20,17 @@ use Rattle.ep_kernel.proofs.ViewLemmas.{find_entry}
 use Rattle.ep_kernel.specs.Listed.{IsListed, lists_of, lists_under, order_at, with_first}
 use Rattle.ep_kernel.specs.ReadyBook.{InstanceList, MayBeListed, list_of}
 use Rattle.ep_law.proofs.ListLemmas.{among, among_member, member_map}
-use Rattle.ep_law.proofs.TestLemmas.{both_true, from_test, same_nat}
 use Rattle.ep_law.specs.Laws.{Member, is_reportable_in}
 use Rattle.ep_machine.specs.Bits.{ET, has_bit}
 use Rattle.ep_machine.specs.Lists.{are_distinct, is_among}
 use Rattle.ep_machine.specs.State.{State, Watch}
 use Rattle.ep_order.specs.Order.{IsComplete}
 use Rattle.ep_order.specs.Pick.{turns_of}
-use Rattle.ep_ready.specs.ReadyLists.{IsSound as AreSoundLists, Lists, Same, empty, entry_id, list_at, stands, stands_by}
+use Rattle.ep_rings.specs.KeyWalk.{entry_id}
+use Rattle.ep_ready.specs.ReadyLists.{IsSound as AreSoundLists, Lists, Same, empty, list_at, stands, stands_by}
 use Rattle.ep_interest.specs.Registrations.{number_under as entry_number}
 use Rattle.ep_table.specs.Value.{Sound as SoundTables, number_under}
 use Rattle.ep_view.specs.KernelView.{KernelWatch, kernel_watch}
-
-none_some : (d : ℕ) → None ≡ Some d → ⊥
-none_some d h = absurd (cc)
-
-some_same : (c d : ℕ) → Some c ≡ Some d → c ≡ d
-some_same c d h = ap (λ (o : Option ℕ). unwrap_or o 0) h
-
-less_one : (j k : ℕ) → suc j ≡ suc k → j ≡ k
-less_one j k h = cc
-
-not_zero : (k : ℕ) → suc k ≡ zero → ⊥
-not_zero k h = absurd (cc)
-
-apart_test : (c d : ℕ) → (c ≡ d → ⊥) → (c == d) ≡ false
-apart_test c d h = elim (cases_Bool (c == d)) [ inl t ↦ absurd (h (from_test c d t)) | inr f ↦ f ]
 
 -- Lists under keys.
 
@@ -51,7 +40,7 @@ first_here d (k ∷ ks) rest h = ap (λ (b : Bool). cond b (k ∷ ks) (list_of r
 
 first_other : (c d : ℕ) (ks : List ℕ) (rest : List InstanceList) → (c ≡ d → ⊥) → list_of (with_first c ks rest) d ≡ list_of rest d
 first_other c d [] rest h = refl
-first_other c d (k ∷ ks) rest h = ap (λ (b : Bool). cond b (k ∷ ks) (list_of rest d)) (apart_test c d h)
+first_other c d (k ∷ ks) rest h = ap (λ (b : Bool). cond b (k ∷ ks) (list_of rest d)) (test_apart c d h)
 
 -- a number that stands under no key
 abbrev NoKey : List (Option ℕ) → ℕ → Type 0
@@ -66,15 +55,15 @@ none_under order (Some c ∷ keys) d h =
 
 -- one that stands under one key
 under_one : (order : ℕ → List ℕ) (keys : List (Option ℕ)) (j d : ℕ) → slice_index_or keys j None ≡ Some d → ((k : ℕ) → slice_index_or keys k None ≡ Some d → k ≡ j) → list_of (lists_under order keys) d ≡ order j
-under_one order [] j d at one = absurd (none_some d at)
-under_one order (None ∷ keys) zero d at one = absurd (none_some d at)
-under_one order (None ∷ keys) (suc j) d at one = under_one (λ i. order (suc i)) keys j d at (λ k h. less_one k j (one (suc k) h))
+under_one order [] j d at one = absurd (none-some d at)
+under_one order (None ∷ keys) zero d at one = absurd (none-some d at)
+under_one order (None ∷ keys) (suc j) d at one = under_one (λ i. order (suc i)) keys j d at (λ k h. suc_same k j (one (suc k) h))
 under_one order (Some c ∷ keys) zero d at one =
     subst (λ (n : ℕ). list_of (with_first n (order 0) (lists_under (λ i. order (suc i)) keys)) d ≡ order 0) (sym (some_same c d at))
-    (first_here d (order 0) (lists_under (λ i. order (suc i)) keys) (none_under (λ i. order (suc i)) keys d (λ k h. not_zero k (one (suc k) h))))
+    (first_here d (order 0) (lists_under (λ i. order (suc i)) keys) (none_under (λ i. order (suc i)) keys d (λ k h. suc_zero k (one (suc k) h))))
 under_one order (Some c ∷ keys) (suc j) d at one =
-    first_other c d (order 0) (lists_under (λ i. order (suc i)) keys) (λ e. not_zero j (sym (one zero (ap (λ (n : ℕ). Some n) e))))
-    ∙ under_one (λ i. order (suc i)) keys j d at (λ k h. less_one k j (one (suc k) h))
+    first_other c d (order 0) (lists_under (λ i. order (suc i)) keys) (λ e. suc_zero j (sym (one zero (ap (λ (n : ℕ). Some n) e))))
+    ∙ under_one (λ i. order (suc i)) keys j d at (λ k h. suc_same k j (one (suc k) h))
 
 no_key : (o : Option ℕ) (keys : List (Option ℕ)) (d : ℕ) → (o ≡ Some d → ⊥) → NoKey keys d → NoKey (o ∷ keys) d
 no_key o keys d here there zero at = here at
@@ -83,14 +72,14 @@ no_key o keys d here there (suc k) at = there k at
 with_key : (o : Option ℕ) (keys : List (Option ℕ)) (d : ℕ) → ((j : ℕ) × (slice_index_or keys j None ≡ Some d)) ⊎ NoKey keys d
     → ((j : ℕ) × (slice_index_or (o ∷ keys) j None ≡ Some d)) ⊎ NoKey (o ∷ keys) d
 with_key o keys d (inl w) = inl (suc w.0, w.1)
-with_key None keys d (inr none) = inr (no_key None keys d (none_some d) none)
+with_key None keys d (inr none) = inr (no_key None keys d (none-some d) none)
 with_key (Some c) keys d (inr none) = elim (cases_Bool (c == d)) [
   | inl t ↦ inl (zero, ap (λ (n : ℕ). Some n) (from_test c d t))
   | inr f ↦ inr (no_key (Some c) keys d (λ e. false≢true (sym f ∙ (ap (λ (n : ℕ). n == d) (some_same c d e) ∙ same_nat d))) none)
 ]
 
 key_of : (keys : List (Option ℕ)) (d : ℕ) → ((j : ℕ) × (slice_index_or keys j None ≡ Some d)) ⊎ NoKey keys d
-key_of [] d = inr (λ k at. none_some d at)
+key_of [] d = inr (λ k at. none-some d at)
 key_of (o ∷ keys) d = with_key o keys d (key_of keys d)
 
 -- the same lists

@@ -18,7 +18,7 @@ use Rattle.ep_kernel.specs.Beside.{HasRoomFor, KeepsRest, Widens}
 use Rattle.ep_kernel.specs.Stands.{HasRoom}
 use Rattle.ep_kernel.specs.declared.beside.Beside.{Beside}
 use Rattle.ep_machine.specs.Lists.{is_among}
-use Rattle.ep_ready.specs.Walk.{Walk}
+use Rattle.ep_walk.specs.Walk.{Walk}
 
 -- a choice that notes what was lost in the walk of what was reached
 abbrev pub with_reached_lost : Beside → Choice

@@ -43,7 +43,8 @@ use Rattle.ep_order.proofs.EventLemmas.{beginning_keeps_turns}
 use Rattle.ep_order.specs.Event.{ListsGoOn}
 use Rattle.ep_order.specs.Order.{IsFairOrder, Turns as Order}
 use Rattle.ep_order.specs.Pick.{turns_of}
-use Rattle.ep_ready.specs.ReadyLists.{IsSound as AreSoundLists, Lists, Same, empty, entry_id, instance_at, stands, stands_by}
+use Rattle.ep_rings.specs.KeyWalk.{entry_id}
+use Rattle.ep_ready.specs.ReadyLists.{IsSound as AreSoundLists, Lists, Same, empty, instance_at, stands, stands_by}
 use Rattle.ep_table.specs.Value.{Sound as SoundTables}
 use Rattle.ep_view.proofs.AtRestLemmas.{quiet_begun}
 

@@ -29,7 +29,7 @@ use Rattle.ep_interest.specs.declared.entry.Entry.{Entry}
 use Rattle.ep_kernel.proofs.ControlTurnsLemmas.{IsThere, there_by}
 use Rattle.ep_machine.specs.Bits.{EXCLUSIVE, ONESHOT, has_bit}
 use Rattle.ep_machine.specs.Lists.{is_among}
-use Rattle.ep_ready.specs.Walk.{Walk}
+use Rattle.ep_walk.specs.Walk.{Walk}
 
 -- what has room for the registrations before has room for those after
 abbrev pub StillSuits : Registrations → Registrations → Type 0

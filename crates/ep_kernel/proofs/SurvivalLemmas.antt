@@ -1,7 +1,7 @@
 -- What an event leaves of registrations and of their places, once the dead are gone.
 use Rattle.ep_law.proofs.GraphLemmas.{member_of_map}
 use Rattle.ep_calls.proofs.EntryLemmas.{holds_under}
-use Rattle.std.proofs.Common.{◌≡◌, ◌∙◌, ◌==◌, ◌&&◌, ◌||◌, ◌⊎◌, ◌++◌, ℕ, Bool, true, false, not, IsSome, List, [], ◌∷◌, None, Option, Some, ap, append-nil, arith, cond, filter, inl, inr, map, nat_lt, refl, slice_index_or, subst, sym, unwrap_or}
+use Rattle.std.proofs.Common.{◌≡◌, ◌∙◌, ◌==◌, ◌&&◌, ◌||◌, ◌++◌, ℕ, Bool, true, false, not, IsSome, List, [], ◌∷◌, None, Option, Some, ap, append-nil, arith, cond, filter, inl, inr, map, nat_lt, refl, slice_index_or, subst, sym, unwrap_or}
 use Rattle.std.specs.List.{list_any}
 use Rattle.std.specs.Option.{option_map}
 use Rattle.std.proofs.lemmas.Bool.{cases_Bool, false≢true}
@@ -18,18 +18,18 @@ use Rattle.ep_calls.specs.Stands.{AreLinked, IsLinked, number_at, watch_at}
 use Rattle.ep_calls.specs.declared.raising.Raising.{Raising}
 use Rattle.ep_interest.specs.Registrations.{IsSound, Registrations, entry_under, is_of, is_on}
 use Rattle.ep_interest.specs.declared.entry.Entry.{Entry}
-use Rattle.ep_kernel.proofs.ViewLemmas.{Views, among_ids, any_of, back, entry_views, forth}
+use Rattle.ep_kernel.proofs.ViewLemmas.{Views, among_ids, back, entry_views, forth}
 use Rattle.ep_kernel.specs.Listed.{HavePlaces, MayStand, may_stand}
 use Rattle.ep_kernel.specs.Places.{LosesDying, touches}
-use Rattle.ep_law.proofs.ListLemmas.{among, among_member, filtered_member}
-use Rattle.ep_law.proofs.TestLemmas.{from_test, or_right, same_test}
+use Rattle.ep_law.proofs.ListLemmas.{among, among_member, any_has, filtered_member}
 use Rattle.ep_law.specs.Laws.{Member}
 use Rattle.ep_machine.specs.Bits.{ET, has_bit}
 use Rattle.ep_machine.specs.Counts.{brings}
 use Rattle.ep_machine.specs.Deaths.{die_all}
 use Rattle.ep_machine.specs.Files.{Place}
 use Rattle.ep_machine.specs.Lists.{is_among}
-use Rattle.ep_ready.specs.ReadyLists.{Lists, entry_id, instance_at, list_at, stands_by}
+use Rattle.ep_rings.specs.KeyWalk.{entry_id}
+use Rattle.ep_ready.specs.ReadyLists.{Lists, instance_at, list_at, stands_by}
 use Rattle.ep_table.specs.Value.{Seen, Sound as SoundTables, number_under as desc_number}
 use Rattle.ep_view.specs.KernelView.{KernelWatch, climbed as climbed_by, freshened, freshened_by, reached_now, watches_instance}
 use Rattle.ep_calls.specs.Climb.{Climbs, is_nested, link_of}
@@ -42,12 +42,13 @@ use Rattle.ep_machine.specs.Bits.{IN, asked}
 use Rattle.ep_nest.specs.declared.link.Link.{Link}
 use Rattle.ep_calls.specs.Climb.{is_reached_key}
 use Rattle.ep_law.proofs.ListLemmas.{any_member, filtered_passes}
-use Rattle.ep_law.proofs.TestLemmas.{both_true}
 use Rattle.ep_kernel.proofs.ViewLemmas.{brings_asked, find_entry}
 use Rattle.ep_law.proofs.ListLemmas.{member_filter, member_map}
-use Rattle.ep_law.proofs.TestLemmas.{or_left, same_nat}
 use Rattle.ep_kernel.proofs.EntryLemmas.{is_under}
 use Rattle.std.proofs.lemmas.Bool.Decides.{nat_tests}
+use Rattle.ep_facts.proofs.NatFacts.{from_test, same_nat, same_test}
+use Rattle.ep_facts.proofs.BoolFacts.{both_true, or_by_not, or_cases, or_left, or_right, or_swap}
+use Rattle.ep_facts.proofs.ListFacts.{head_same, tail_same}
 use Rattle.ep_view.specs.KernelView.{carries}
 
 all_pass : {X : Type 0} (xs : List X) → xs ≡ filter (λ x. true) xs
@@ -55,17 +56,6 @@ all_pass [] = refl
 all_pass (x ∷ xs) = ap (λ ys. x ∷ ys) (all_pass xs)
 
 -- What dies by keys is what dies by numbers.
-head_is : {X : Type 0} (x y : X) (xs ys : List X) → x ∷ xs ≡ y ∷ ys → x ≡ y
-head_is x y xs ys e = cc
-
-tail_is : {X : Type 0} (x y : X) (xs ys : List X) → x ∷ xs ≡ y ∷ ys → xs ≡ ys
-tail_is x y xs ys e = cc
-
-either_more : (a b c d : Bool) → ((a || b) || (c || d)) ≡ ((a || c) || (b || d))
-either_more true b c d = refl
-either_more false true true d = refl
-either_more false true false d = refl
-either_more false false c d = refl
 
 -- some of these descriptions has one of the two keys
 any_desc : (v : Seen) → SoundTables v → (a b : DescId) → IsSome (desc_number v a) → IsSome (desc_number v b) → (descs : List DescId) (ds : List ℕ) → map (desc_number v) descs ≡ map Some ds
@@ -74,17 +64,12 @@ any_desc v sound a b la lb [] [] e = refl
 any_desc v sound a b la lb [] (d ∷ ds) e = absurd (cc)
 any_desc v sound a b la lb (desc ∷ descs) [] e = absurd (cc)
 any_desc v sound a b la lb (desc ∷ descs) (d ∷ ds) e =
-    let here : desc_number v desc ≡ Some d = head_is _ _ _ _ e in
+    let here : desc_number v desc ≡ Some d = head_same _ _ _ _ e in
     let lives : IsSome (desc_number v desc) = subst (λ (o : Option ℕ). IsSome o) (sym here) refl in
     let number : number_at v.keys desc ≡ d = ap (λ (o : Option ℕ). unwrap_or o 0) here in
     let one = λ (x : DescId) (lx : IsSome (desc_number v x)). sym (same_keys v x desc sound lx lives) ∙ ap (λ (n : ℕ). number_at v.keys x == n) number in
-    let rest = any_desc v sound a b la lb descs ds (tail_is _ _ _ _ e) in
-    (λ i. (one a la i || one b lb i) || rest i) ∙ either_more (number_at v.keys a == d) (number_at v.keys b == d) (is_among ds (number_at v.keys a)) (is_among ds (number_at v.keys b))
-
-either_not : (a b : Bool) → (a || b) ≡ not (not a && not b)
-either_not true b = refl
-either_not false true = refl
-either_not false false = refl
+    let rest = any_desc v sound a b la lb descs ds (tail_same _ _ _ _ e) in
+    (λ i. (one a la i || one b lb i) || rest i) ∙ or_swap (number_at v.keys a == d) (number_at v.keys b == d) (is_among ds (number_at v.keys a)) (is_among ds (number_at v.keys b))
 
 any_same : {X : Type 0} (f g : X → Bool) (xs : List X) → ((x : X) → f x ≡ g x) → list_any f xs ≡ list_any g xs
 any_same f g [] h = refl
@@ -95,15 +80,11 @@ module _ (v : Seen) (r : Registrations) (tables : SoundTables v) (sound : IsSoun
   touched_is k x h =
       let link = holds_under (IsLinked v.keys) r (entry_id k) x linked h in
       any_same (λ desc. touches r desc k) (λ desc. is_of desc x || is_on desc x) descs (λ desc. let of = among_ids v.keys r sound (is_of desc) k x h in let on = among_ids v.keys r sound (is_on desc) k x h in λ i. of i || on i)
-      ∙ (any_desc v tables x.instance x.desc link.instance link.desc descs ds same ∙ either_not (is_among ds (number_at v.keys x.instance)) (is_among ds (number_at v.keys x.desc)))
+      ∙ (any_desc v tables x.instance x.desc link.instance link.desc descs ds same ∙ or_by_not (is_among ds (number_at v.keys x.instance)) (is_among ds (number_at v.keys x.desc)))
 
 none_either : (b : Bool) (o : Option ℕ) → o ≡ None → cond b None o ≡ None
 none_either true o h = refl
 none_either false o h = h
-
-pub or_cases : (a b : Bool) → (a || b) ≡ true → (a ≡ true) ⊎ (b ≡ true)
-or_cases true b h = inl refl
-or_cases false b h = inr h
 
 -- what may stand, of the machine's registration
 abbrev pub may_watch : KernelWatch → Bool
@@ -357,7 +338,7 @@ module _ (n : ℕ) (buried : Parts) (climbed : Registrations) (climbs : Climbs n
       let among_them : has_id (ids buried.interest (filter (is_on x.desc) buried.interest.entries)) k ≡ true = among_ids buried_keys buried.interest was (is_on x.desc) k x is ∙ same_nat x.desc.0 in
       let lets : lets_in (entry_under buried.interest (entry_id k)) ≡ true = ap lets_in is ∙ (λ i. third.0 i && first.1 i) in
       or_right (passes_found (entry_under buried.interest (entry_id k))) (list_any (λ l. comes_by n buried l k) buried.graph)
-      (any_of (λ l. comes_by n buried l k) buried.graph link of (λ i. second.1 i && (among_them i && lets i)))
+      (any_has (λ l. comes_by n buried l k) buried.graph link of (λ i. second.1 i && (among_them i && lets i)))
 
   positive_number : (a : ℕ) → (0 == n) ≡ false → (a == n) ≡ true → nat_lt 0 a ≡ true
   positive_number a counted e = grind (arith, nat_tests, counted, e)

@@ -1,14 +1,17 @@
 -- Taking registrations off the front of a ready list.
-use Rattle.std.proofs.Common.{◌≡◌, ◌<◌, ◌++◌, ◌&&◌, ◌∙◌, ◌+◌, ℕ, zero, suc, Bool, true, false, IsSome, List, [], ◌∷◌, Option, Some, ap, append-nil, arith, cond, drop, eqb, filter, inl, inr, length, not, refl, rules, subst, sym, take}
+use Rattle.std.proofs.Common.{◌≡◌, ◌<◌, ◌++◌, ◌∙◌, ◌+◌, ℕ, zero, suc, Bool, true, false, IsSome, List, [], ◌∷◌, Option, Some, ap, append-nil, arith, cond, drop, eqb, filter, inl, inr, length, not, refl, rules, subst, sym, take}
 use Rattle.std.proofs.lemmas.Bool.{cases_lt}
 use Rattle.std.proofs.lemmas.List.{append_assoc, get_or-set_other, get_or-set_same, get_or_past}
 use Rattle.std.proofs.lemmas.List.Elements.{filter-append}
+use Rattle.std.proofs.Math.Numerals.{suc-eq-add-one}
+use Rattle.ep_facts.proofs.BoolFacts.{first_of_and, from_not}
 use Rattle.ep_base.specs.declared.ids.EntryId.{EntryId}
 use Rattle.ep_machine.specs.Lists.{are_distinct, is_among}
 use Rattle.ep_kernel.specs.Take.{SetsList, taken}
-use Rattle.ep_ready.specs.ReadyLists.{IsSound, Lists, after_removal, after_rotation, entry_id, front_in, front_of, instance_at, list_at, removal_by, with_list}
-use Rattle.ep_rings.specs.Rings.{rotation_of}
-use Rattle.ep_rings.proofs.FrontLemmas.{filter_gone}
+use Rattle.ep_rings.specs.KeyWalk.{entry_id}
+use Rattle.ep_ready.specs.ReadyLists.{IsSound, Lists, after_removal, after_rotation, front_in, front_of, instance_at, list_at, removal_by, with_list}
+use Rattle.ep_rings.specs.PlacedRows.{rotation_of}
+use Rattle.ep_rings.proofs.AmongLemmas.{filter_gone}
 
 module _ (l : Lists) (i : ℕ) where
   within : 0 < length (list_at l i) → i < length l.lists
@@ -31,16 +34,8 @@ module _ (l : Lists) (i : ℕ) where
   some_key : (ks : List ℕ) (k : ℕ) (rest : List ℕ) → ks ≡ k ∷ rest → 0 < length ks
   some_key ks k rest e = subst (λ (xs : List ℕ). 0 < length xs) (sym e) (omega arith)
 
-  and_first : (a b : Bool) → (a && b) ≡ true → a ≡ true
-  and_first true b h = refl
-  and_first false b h = h
-
-  not_true : (a : Bool) → not a ≡ true → a ≡ false
-  not_true true h = cc
-  not_true false h = refl
-
   head_gone : (k : ℕ) (rest : List ℕ) → are_distinct (k ∷ rest) ≡ true → filter (λ x. not (eqb x k)) (k ∷ rest) ≡ rest
-  head_gone k rest h = let same : eqb k k ≡ true = search rules in rw same (filter_gone rest k (not_true (is_among rest k) (and_first (not (is_among rest k)) (are_distinct rest) h)))
+  head_gone k rest h = let same : eqb k k ≡ true = search rules in rw same (filter_gone rest k (from_not (is_among rest k) (first_of_and (not (is_among rest k)) (are_distinct rest) h)))
 
   among_head : (k : ℕ) (rest : List ℕ) → is_among (k ∷ rest) k ≡ true
   among_head k rest = let same : eqb k k ≡ true = search rules in rw same refl
@@ -81,12 +76,9 @@ taken_more stays xs j lt =
     ∙ (append_assoc (drop (suc j) xs) done (filter stays (r.0 ∷ []))
     ∙ ap (λ (ys : List ℕ). drop (suc j) xs ++ ys) (sym (filter-append stays (take j xs) (r.0 ∷ [])) ∙ ap (filter stays) (sym r.2)))
 
-next_count : (j : ℕ) → suc j ≡ j + 1
-next_count j = omega arith
-
 pub takes_more : (stays : ℕ → Bool) (old mid new : Lists) (i j : ℕ) → j < length (list_at old i) → SetsList old mid i (taken stays j (list_at old i)) → SetsList mid new i (taken stays 1 (list_at mid i)) → SetsList old new i (taken stays (j + 1) (list_at old i))
 takes_more stays old mid new i j lt before one = record {
-  here = one.here ∙ (ap (taken stays 1) before.here ∙ (taken_more stays (list_at old i) j lt ∙ ap (λ (n : ℕ). taken stays n (list_at old i)) (next_count j)));
+  here = one.here ∙ (ap (taken stays 1) before.here ∙ (taken_more stays (list_at old i) j lt ∙ ap (λ (n : ℕ). taken stays n (list_at old i)) (suc-eq-add-one j)));
   others = λ k other. one.others k other ∙ before.others k other;
   places = λ id. one.places id ∙ before.places id;
 }

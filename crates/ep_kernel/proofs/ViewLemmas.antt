@@ -1,13 +1,12 @@
 -- The registration under a key, as the machine has it.
 use Rattle.ep_law.proofs.GraphLemmas.{member_of_map}
 use Rattle.std.proofs.Common.{◌≡◌, ◌∙◌, ◌==◌, ◌&&◌, ◌||◌, ℕ, Bool, true, false, not, IsSome, List, [], ◌∷◌, None, Option, Some, ap, arith, bit_and, cond, filter, inl, inr, map, nat_eq, nat_lt, refl, subst, sym}
-use Rattle.std.specs.List.{list_any}
 use Rattle.std.proofs.lemmas.Bool.{cases_Bool, false≢true}
 use Rattle.std.proofs.lemmas.Bool.Decides.{nat_tests}
 use Rattle.std.proofs.lemmas.Nat.{and_assoc, and_comm}
 use Rattle.ep_base.specs.declared.ids.EntryId.{EntryId}
 use Rattle.ep_calls.proofs.EntryKeyLemmas.{each_keyed, id_is}
-use Rattle.ep_calls.proofs.FindLemmas.{each_numbered, some_one}
+use Rattle.ep_calls.proofs.FindLemmas.{each_numbered}
 use Rattle.ep_calls.specs.Ids.{KeepsIds}
 use Rattle.ep_calls.specs.Stands.{watch_at}
 use Rattle.ep_interest.proofs.PurgeLemmas.{numbered_number}
@@ -15,26 +14,18 @@ use Rattle.ep_interest.specs.Passes.{has_id, key_numbers}
 use Rattle.ep_interest.specs.Registrations.{IsSound, Registrations, entry_found, entry_under, id_of, ids, number_under, numbered}
 use Rattle.ep_interest.specs.declared.entry.Entry.{Entry}
 use Rattle.ep_kernel.proofs.EntryLemmas.{is_under}
-use Rattle.ep_law.proofs.ListLemmas.{all_member, any_member, filtered_member, filtered_passes, member_filter, member_map}
-use Rattle.ep_law.proofs.TestLemmas.{from_test, or_left, or_right, same_test}
+use Rattle.ep_law.proofs.ListLemmas.{all_member, any_has, any_member, filtered_member, filtered_passes, member_filter, member_map}
 use Rattle.ep_law.specs.Laws.{Member}
 use Rattle.ep_machine.specs.Bits.{ERR, HUP, IN, OUT, RDHUP, asked, has_bit, union}
 use Rattle.ep_machine.specs.Counts.{brings, every_shown_bit}
-use Rattle.ep_ready.specs.ReadyLists.{entry_id}
+use Rattle.ep_rings.specs.KeyWalk.{entry_id}
 use Rattle.ep_view.specs.KernelView.{KernelWatch}
 use Rattle.std.proofs.lemmas.List.Elements.{All-from_recursion}
+use Rattle.ep_facts.proofs.NatFacts.{from_test, same_test}
+use Rattle.ep_facts.proofs.OptionFacts.{none_is_some, some_same}
+use Rattle.ep_facts.proofs.BoolFacts.{same_bools}
 
 -- Members.
-pub any_of : {X : Type 0} (f : X → Bool) (xs : List X) (x : X) → Member x xs → f x ≡ true → list_any f xs ≡ true
-any_of f [] x m t = absurd m
-any_of f (y ∷ ys) x (inl e) t = or_left _ _ (ap f (sym e) ∙ t)
-any_of f (y ∷ ys) x (inr m) t = or_right _ _ (any_of f ys x m t)
-
--- two tests with the same meaning
-pub same_bools : (a b : Bool) → (a ≡ true → b ≡ true) → (b ≡ true → a ≡ true) → a ≡ b
-same_bools true b f g = sym (f refl)
-same_bools false true f g = g refl
-same_bools false false f g = refl
 
 some_found : (o : Option Entry) → IsSome o → (x : Entry) × (o ≡ Some x)
 some_found None h = absurd (false≢true h)
@@ -83,12 +74,12 @@ module _ (keys : List (Option ℕ)) (r : Registrations) where
   view_number k w v = (is_under r (entry_id k) v.x v.under).number ∙ ap (λ (u : KernelWatch). Some u.number) v.is
 
   pub one_view : (k : ℕ) (v w : KernelWatch) → Views keys r k v → Views keys r k w → v ≡ w
-  one_view k v w a b = sym a.is ∙ (ap (watch_at keys) (some_one a.x b.x (sym a.under ∙ b.under)) ∙ b.is)
+  one_view k v w a b = sym a.is ∙ (ap (watch_at keys) (some_same a.x b.x (sym a.under ∙ b.under)) ∙ b.is)
 
   pub find_entry : (xs : List Entry) (n : ℕ) (x : Entry) → numbered xs n ≡ Some x → Member x xs
   find_entry [] n x h = absurd (cc)
   find_entry (y ∷ ys) n x h = elim (cases_Bool (y.number == n)) [
-    | inl t ↦ inl (some_one x y (sym h ∙ ap (λ (b : Bool). cond b (Some y) (numbered ys n)) t))
+    | inl t ↦ inl (some_same x y (sym h ∙ ap (λ (b : Bool). cond b (Some y) (numbered ys n)) t))
     | inr f ↦ inr (find_entry ys n x (sym (ap (λ (b : Bool). cond b (Some y) (numbered ys n)) f) ∙ h))
   ]
 
@@ -136,28 +127,25 @@ module _ (keys : List (Option ℕ)) (r : Registrations) where
           let in_all = filtered_member q r.entries y.0 y.1 in
           let keyed : number_under r (id_of r y.0.number) ≡ Some y.0.number = all_member (λ (z : Entry). number_under r (id_of r z.number) ≡ Some z.number) r.entries y.0 (each_keyed r sound) in_all in
           let same : entry_under r (entry_id k) ≡ Some y.0 = ap (λ (j : ℕ). entry_under r (entry_id j)) key ∙ (ap (entry_found r.entries) keyed ∙ found y.0 in_all) in
-          ap q (some_one x y.0 (sym h ∙ same)) ∙ filtered_passes q r.entries y.0 y.1
+          ap q (some_same x y.0 (sym h ∙ same)) ∙ filtered_passes q r.entries y.0 y.1
 
       back : q x ≡ true → has_id (ids r (filter q r.entries)) k ≡ true
       back t =
           let m = member_filter q x r.entries (find_entry r.entries x.number x (is_under r (entry_id k) x h).there) t in
           let i = member_map (λ (id : EntryId). id.0) (id_of r x.number) (ids r (filter q r.entries)) (member_map (λ (z : Entry). id_of r z.number) x (filter q r.entries) m) in
-          any_of (nat_eq k) (key_numbers (ids r (filter q r.entries))) (id_of r x.number).0 i
+          any_has (nat_eq k) (key_numbers (ids r (filter q r.entries))) (id_of r x.number).0 i
           (same_test k (id_of r x.number).0 (ap (λ (id : EntryId). id.0) (sym (id_is r sound (entry_id k) x.number under))))
 
 -- What registrations become: those that pass the test stay, each changed, under their keys.
 module _ (olds news : List (Option ℕ)) (r q : Registrations) (was : IsSound r) (is : IsSound q) (p : KernelWatch → Bool) (f : KernelWatch → KernelWatch) (number : (w : KernelWatch) → (f w).number ≡ w.number)
     (watches : map (watch_at news) q.entries ≡ map f (filter p (map (watch_at olds) r.entries))) (keeps : KeepsIds r q) where
-  not_none : (n : ℕ) (o : Option ℕ) → o ≡ None → o ≡ Some n → ⊥
-  not_none n o a b = absurd (let e : None ≡ Some n = sym a ∙ b in cc)
-
   pub back : (k : ℕ) (w : KernelWatch) → Views news q k w → (v : KernelWatch) × Views olds r k v × (p v ≡ true) × (w ≡ f v)
   back k w h =
       let m = subst (Member w) watches (view_member news q k w h) in
       let v = member_of_map f (filter p (map (watch_at olds) r.entries)) w m in
       let numbers : w.number ≡ v.0.number = ap (λ (u : KernelWatch). u.number) (sym v.2) ∙ number v.0 in
       let now = view_number news q k w h in
-      let before : number_under r (entry_id k) ≡ Some w.number = elim (keeps (entry_id k)) [ inl none ↦ absurd (not_none w.number _ none now) | inr same ↦ sym same ∙ now ] in
+      let before : number_under r (entry_id k) ≡ Some w.number = elim (keeps (entry_id k)) [ inl none ↦ absurd (none_is_some w.number _ none now) | inr same ↦ sym same ∙ now ] in
       (v.0, view_at olds r was k v.0 (filtered_member p (map (watch_at olds) r.entries) v.0 v.1) (before ∙ ap (λ (n : ℕ). Some n) numbers), filtered_passes p (map (watch_at olds) r.entries) v.0 v.1, sym v.2)
 
   pub forth : (k : ℕ) (v : KernelWatch) → Views olds r k v → p v ≡ true → Views news q k (f v)

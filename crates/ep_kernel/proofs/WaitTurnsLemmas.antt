@@ -1,8 +1,12 @@
 -- What a wait, or an event that is no wait and no epoll_ctl, does to the ready lists.
 use Rattle.std.proofs.Common.{◌≡◌, ◌++◌, ◌∙◌, ◌==◌, ◌&&◌, ◌||◌, ℕ, zero, suc, Bool, true, false, List, [], ◌∷◌, None, Option, Some, ap, append-nil, cond, drop, filter, inl, inr, map, nat_lt, not, refl, slice_index_or, subst, sym, take}
 use Rattle.std.specs.Option.{option_map}
-use Rattle.std.proofs.lemmas.Bool.{cases_Bool, false≢true}
+use Rattle.std.proofs.lemmas.Bool.{cases_Bool, false_from_ne_true, false≢true}
 use Rattle.std.proofs.lemmas.List.Elements.{All-head, All-tail}
+use Rattle.ep_facts.proofs.NatFacts.{from_test, same_nat, same_test}
+use Rattle.ep_facts.proofs.AmongFacts.{among_append}
+use Rattle.ep_facts.proofs.ListFacts.{all_kept}
+use Rattle.ep_facts.proofs.BoolFacts.{both_true, from_not, from_not_false, or_right}
 use Rattle.ep_base.specs.declared.call.Call.{Call}
 use Rattle.ep_base.specs.declared.call.Call.TheVariants.{EpollCtl}
 use Rattle.ep_base.specs.declared.call.Event.{Event}
@@ -22,30 +26,14 @@ use Rattle.ep_kernel.specs.Choose.{IsFound, keys_of}
 use Rattle.ep_kernel.specs.Listed.{HavePlaces, IsListed, MayStand, key_shows, may_stand, shows_found}
 use Rattle.ep_kernel.specs.Take.{SetsList, key_stays, stays_found, taken}
 use Rattle.ep_kernel.specs.Turns.{AlteredStand, Turns}
-use Rattle.ep_law.proofs.ListLemmas.{among, among_member, among_split, filtered_member, filtered_passes, member_filter}
-use Rattle.ep_law.proofs.TestLemmas.{both_true, from_test, or_right, same_nat, same_test}
+use Rattle.ep_law.proofs.ListLemmas.{among, among_member, filtered_member, filtered_passes, member_filter, taken_member}
 use Rattle.ep_law.specs.Laws.{Member}
 use Rattle.ep_machine.specs.Bits.{ET, ONESHOT, has_bit, when}
 use Rattle.ep_machine.specs.Lists.{are_distinct, is_among}
-use Rattle.ep_ready.specs.ReadyLists.{IsSound as AreSoundLists, Lists, Same, entry_id, instance_at, list_at, stands, stands_by}
-
-not_true : (a : Bool) → (a ≡ true → ⊥) → a ≡ false
-not_true true h = absurd (h refl)
-not_true false h = refl
-
-from_not : (a : Bool) → not a ≡ true → a ≡ false
-from_not true h = absurd (false≢true h)
-from_not false h = refl
-
-from_not_false : (a : Bool) → not a ≡ false → a ≡ true
-from_not_false true h = refl
-from_not_false false h = absurd (false≢true (sym h))
+use Rattle.ep_rings.specs.KeyWalk.{entry_id}
+use Rattle.ep_ready.specs.ReadyLists.{IsSound as AreSoundLists, Lists, instance_at, list_at, stands, stands_by}
 
 -- Lists of keys.
-
-none_left_out : (xs : List ℕ) → filter (λ k. true) xs ≡ xs
-none_left_out [] = refl
-none_left_out (x ∷ xs) = ap (λ (ys : List ℕ). x ∷ ys) (none_left_out xs)
 
 -- what is not among others stays
 kept_apart : (ws xs : List ℕ) → ((k : ℕ) → Member k xs → is_among ws k ≡ false) → filter (λ k. not (is_among ws k)) xs ≡ xs
@@ -54,20 +42,14 @@ kept_apart ws (x ∷ xs) h =
     ap (λ (b : Bool). cond (not b) (x ∷ filter (λ k. not (is_among ws k)) xs) (filter (λ k. not (is_among ws k)) xs)) (h x (inl refl))
     ∙ ap (λ (ys : List ℕ). x ∷ ys) (kept_apart ws xs (λ k m. h k (inr m)))
 
-taken_member : (n : ℕ) (xs : List ℕ) (k : ℕ) → Member k (take n xs) → Member k xs
-taken_member zero xs k m = absurd m
-taken_member (suc n) [] k m = m
-taken_member (suc n) (x ∷ xs) k (inl e) = inl e
-taken_member (suc n) (x ∷ xs) k (inr m) = inr (taken_member n xs k m)
-
 -- of a list that has none twice, what is not among the first so many is what comes behind them
 left_behind : (n : ℕ) (xs : List ℕ) → are_distinct xs ≡ true → filter (λ k. not (is_among (take n xs) k)) xs ≡ drop n xs
-left_behind zero xs h = none_left_out xs
+left_behind zero xs h = all_kept xs
 left_behind (suc n) [] h = refl
 left_behind (suc n) (x ∷ xs) h =
     let new = both_true (not (is_among xs x)) (are_distinct xs) h in
     ap (λ (b : Bool). cond (not (b || is_among (take n xs) x)) (x ∷ filter (λ k. not (is_among (x ∷ take n xs) k)) xs) (filter (λ k. not (is_among (x ∷ take n xs) k)) xs)) (same_nat x)
-    ∙ (other (λ k. not (is_among (take n xs) k)) xs (λ k m. not_true (k == x) (λ t. false≢true (sym (from_not _ new.0) ∙ subst (λ (j : ℕ). is_among xs j ≡ true) (from_test k x t) (among k xs m))))
+    ∙ (other (λ k. not (is_among (take n xs) k)) xs (λ k m. false_from_ne_true (k == x) (λ t. false≢true (sym (from_not _ new.0) ∙ subst (λ (j : ℕ). is_among xs j ≡ true) (from_test k x t) (among k xs m))))
     ∙ left_behind n xs new.1) where
       other : (q : ℕ → Bool) (ys : List ℕ) → ((k : ℕ) → Member k ys → (k == x) ≡ false) → filter (λ k. not (k == x || is_among (take n xs) k)) ys ≡ filter (λ k. not (is_among (take n xs) k)) ys
       other q [] h = refl
@@ -183,7 +165,7 @@ module _ (p q : Parts) (l m : Lists) (i step most walked : ℕ) (found : List Re
           ∙ (ap (λ (ks : List ℕ). ks ++ again_of) (sym (left_behind walked (list_at l i) (w.lists.once i)) ∙ ap (λ (n : ℕ). filter still (list_at l n)) (sym same))
           ∙ ap (λ (b : Bool). filter still (list_at l j) ++ cond b again_of []) (sym t)))
       | inr f ↦
-          let other : (k : ℕ) → Member k (list_at l j) → is_among front_keys k ≡ false = λ k has. not_true (is_among front_keys k) (λ t.
+          let other : (k : ℕ) → Member k (list_at l j) → is_among front_keys k ≡ false = λ k has. false_from_ne_true (is_among front_keys k) (λ t.
           let one : Some j ≡ Some i = sym (w.lists.own j (entry_id k) (among k (list_at l j) has)) ∙ front_place k t in
           let same : j ≡ i = cc in
           false≢true (sym f ∙ same_test j i same)) in
@@ -243,7 +225,7 @@ module _ (p q : Parts) (l m : Lists) (i step most walked : ℕ) (found : List Re
         let behind : is_among again_of k ≡ true = among k again_of (member_filter (key_stays step q.interest) k front_keys (among_member front_keys k seen) stays) in
         ap (stands_by m k) (w.takes.places (entry_id k) ∙ front_place k seen)
         ∙ (ap (λ (ks : List ℕ). is_among ks k) w.takes.here
-        ∙ (among_split (drop walked (list_at l i)) again_of k
+        ∙ (among_append (drop walked (list_at l i)) again_of k
         ∙ or_right (is_among (drop walked (list_at l i)) k) (is_among again_of k) behind))
 
     -- what stays where it stood is as it was
@@ -252,7 +234,7 @@ module _ (p q : Parts) (l m : Lists) (i step most walked : ℕ) (found : List Re
         let b = entry_before id x is in
         let kept = among_member (filter still (list_at l j)) id.0 on in
         let stays = filtered_passes still (list_at l j) id.0 kept in
-        let other : is_among picked b.0.number ≡ false = not_true _ (λ t. false≢true (sym (from_not _ stays) ∙ picked_in_front id.0 b.0.number b.3 t)) in
+        let other : is_among picked b.0.number ≡ false = false_from_ne_true _ (λ t. false≢true (sym (from_not _ stays) ∙ picked_in_front id.0 b.0.number b.3 t)) in
         let same : b.0 ≡ x = sym (is_same step picked b.0 other) ∙ b.2 in
         let stand : stands l id ≡ true = ap (stands_by l id.0) (sym (w.takes.places id) ∙ at) ∙ among id.0 (list_at l j) (filtered_member still (list_at l j) id.0 kept) in
         subst (λ (y : Entry). may_stand y ≡ true) same (w.listed.sound id b.0 b.1 stand)
@@ -271,7 +253,7 @@ module _ (p q : Parts) (l m : Lists) (i step most walked : ℕ) (found : List Re
       by : (o : Option ℕ) → instance_at m id ≡ o → stands_by m id.0 o ≡ true → may_stand x ≡ true
       by None at t = absurd (false≢true t)
       by (Some j) at t =
-          let split = sym (among_split (filter still (list_at l j)) (more_at j) id.0) ∙ (ap (λ (ks : List ℕ). is_among ks id.0) (sym (lists_go_on j)) ∙ t) in
+          let split = sym (among_append (filter still (list_at l j)) (more_at j) id.0) ∙ (ap (λ (ks : List ℕ). is_among ks id.0) (sym (lists_go_on j)) ∙ t) in
           elim (cases_Bool (is_among (filter still (list_at l j)) id.0)) [
             | inl on ↦ still_may_stand id x j is at on
             | inr off ↦ again_may_stand id x j is (ap (λ (b : Bool). b || is_among (more_at j) id.0) (sym off) ∙ split)
@@ -292,7 +274,7 @@ module _ (p q : Parts) (l m : Lists) (i step most walked : ℕ) (found : List Re
       more = more_at;
       lists = lists_go_on;
       comes = λ j k on. inl (comes_from j k on);
-      unpicked = λ j k x on is keeps. not_true (is_among picked x.number) (λ t.
+      unpicked = λ j k x on is keeps. false_from_ne_true (is_among picked x.number) (λ t.
           false≢true (sym (from_not (is_among front_keys k) keeps) ∙ picked_in_front k x.number (is_under p.interest (entry_id k) x is).number t));
       leaves = λ j k x on is goes shows. inl (shown_is_picked k x.number (is_under p.interest (entry_id k) x is).number (from_not_false (is_among front_keys k) goes) shows);
       again = stands_again;
@@ -308,7 +290,7 @@ pub same_turns : (event : Event) (picked : List ℕ) (p q : Parts) (l : Lists) �
 same_turns event picked p q l listed same none altered = record {
   keeps = λ k. true;
   more = λ j. [];
-  lists = λ j. sym (append-nil (filter (λ k. true) (list_at l j)) ∙ none_left_out (list_at l j));
+  lists = λ j. sym (append-nil (filter (λ k. true) (list_at l j)) ∙ all_kept (list_at l j));
   comes = λ j k on. absurd (false≢true on);
   unpicked = λ j k x on is keeps. ap (λ (ks : List ℕ). is_among ks x.number) none;
   leaves = λ j k x on is goes shows. absurd (false≢true (sym goes));

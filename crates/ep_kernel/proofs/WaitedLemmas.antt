@@ -2,7 +2,9 @@
 use Rattle.std.proofs.Common.{◌≡◌, ◌≤◌, ◌∙◌, ◌==◌, ◌&&◌, ◌||◌, ◌⊎◌, ◌++◌, ℕ, ℤ, zero, suc, negsuc, pos, Bool, true, false, not, List, [], ◌∷◌, None, Option, Some, ap, arith, bit_or, cond, filter, if◌then◌else◌, inl, inr, is_some, length, map, min, nat_eq, nat_lt, refl, subst, sym, unwrap_or}
 use Rattle.std.specs.List.{AllByRecursion, IsDistinct, find, list_all, list_any}
 use Rattle.std.proofs.lemmas.Bool.{cases_Bool, false≢true}
-use Rattle.std.proofs.lemmas.Bool.Decides.{nat_tests}
+use Rattle.std.proofs.Math.Bool.{and-false}
+use Rattle.ep_facts.proofs.BoolFacts.{both_true}
+use Rattle.ep_facts.proofs.NatFacts.{from_test, not_apart, same_nat}
 use Rattle.ep_base.specs.declared.answer.Answer.{Answer}
 use Rattle.ep_base.specs.declared.answer.Answer.TheVariants.{Events, Parked, Still}
 use Rattle.ep_base.specs.declared.answer.Report.{Report}
@@ -12,7 +14,6 @@ use Rattle.ep_law.proofs.ListLemmas.{among, among_member, each_found, filtered_m
 use Rattle.ep_law.proofs.MarkLemmas.{marked_all, marked_parts, marks_again}
 use Rattle.ep_law.proofs.ReadinessLemmas.{Goes, and_same, no_long_chain}
 use Rattle.ep_law.proofs.SpreadLemmas.{spread_least}
-use Rattle.ep_law.proofs.TestLemmas.{both_true, from_test, same_nat}
 use Rattle.ep_law.specs.Sound.{Sound}
 use Rattle.ep_law.specs.Laws.{Member, is_reportable_in, passes_on_of}
 use Rattle.ep_machine.specs.Bits.{ET, ONESHOT, asked, has_bit, when}
@@ -21,7 +22,7 @@ use Rattle.ep_machine.specs.Files.{Files, Place, is_live, object_of, side_of}
 use Rattle.ep_machine.specs.Lists.{are_distinct, is_among}
 use Rattle.ep_machine.specs.Marks.{marked_by}
 use Rattle.ep_law.proofs.ReadinessLemmas.{present_same}
-use Rattle.ep_machine.specs.Objects.{instance, is_instance, plain}
+use Rattle.ep_machine.specs.Objects.{is_instance, plain}
 use Rattle.ep_machine.specs.Readiness.{is_fresh, is_ready, is_ready_within, is_reportable, is_reportable_by, reportables}
 use Rattle.ep_machine.specs.Report.{find_watch, is_fair_to, is_pick, plainly, report, report_of, reported, watches_at}
 use Rattle.ep_machine.specs.Settle.{settle}
@@ -152,12 +153,8 @@ none_spread s d = spread_least (λ d bits. bits ≡ 0) s [] d (record {
   above = λ x bits m armed asks none. absurd (false≢true (sym (zero_asked x.mask) ∙ (ap (λ (k : ℕ). nat_lt 0 (asked x.mask k)) (sym none) ∙ asks)));
 })
 
-never : (p : Bool) → (p && false) ≡ false
-never true = refl
-never false = refl
-
 none_passes : (s : State) (x : Watch) → passes_on s [] x ≡ false
-none_passes s x = ap (λ (k : ℕ). x.armed && nat_lt 0 (asked x.mask k)) (none_spread s x.target) ∙ (ap (λ (t : Bool). x.armed && t) (zero_asked x.mask) ∙ never x.armed)
+none_passes s x = ap (λ (k : ℕ). x.armed && nat_lt 0 (asked x.mask k)) (none_spread s x.target) ∙ (ap (λ (t : Bool). x.armed && t) (zero_asked x.mask) ∙ and-false x.armed)
 
 -- what is reportable, by the registrations as they are kept
 reportable_by : (s : State) (e k : ℕ)
@@ -254,9 +251,6 @@ apart_caller : (c : ℕ) (ws : List Waiter) (v : Waiter) → AllByRecursion (λ 
 apart_caller c [] v h m = absurd m
 apart_caller c (w ∷ ws) v h (inl e) = ap (λ (u : Waiter). nat_eq c u.caller) e ∙ h.0
 apart_caller c (w ∷ ws) v h (inr m) = apart_caller c ws v h.1 m
-
-not_apart : (a c : ℕ) → nat_eq a c ≡ false → a ≡ c → ⊥
-not_apart a c h e = grind (arith, nat_tests, h, e)
 
 -- a caller has one waiter
 one_caller : (ws : List Waiter) (v w : Waiter) → IsDistinct nat_eq (map (λ u. u.caller) ws) → Member v ws → Member w ws → v.caller ≡ w.caller → v ≡ w

@@ -8,7 +8,7 @@ use Rattle.ep_kernel.specs.declared.asked.Asked.{Asked}
 use Rattle.ep_machine.specs.Lists.{is_among}
 use Rattle.ep_machine.specs.State.{Waiter}
 use Rattle.ep_nest.specs.declared.link.Link.{Link}
-use Rattle.ep_ready.specs.Walk.{with_noted}
+use Rattle.ep_walk.specs.Walk.{with_noted}
 use Rattle.ep_table.specs.Value.{Seen}
 
 -- the answer of an instance, where it is known

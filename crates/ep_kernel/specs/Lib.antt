@@ -13,3 +13,4 @@ pub mod Control
 pub mod Wait
 pub mod Event
 pub mod Running
+pub mod Watches

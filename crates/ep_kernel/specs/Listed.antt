@@ -12,7 +12,8 @@ use Rattle.ep_machine.specs.Bits.{ET, has_bit}
 use Rattle.ep_machine.specs.State.{State}
 use Rattle.ep_order.specs.Order.{IsFairOrder}
 use Rattle.ep_order.specs.Pick.{turns_of}
-use Rattle.ep_ready.specs.ReadyLists.{Lists, entry_id, instance_at, list_at, stands}
+use Rattle.ep_rings.specs.KeyWalk.{entry_id}
+use Rattle.ep_ready.specs.ReadyLists.{Lists, instance_at, list_at, stands}
 
 -- what may stand on a list: it is armed, and an edge-triggered one is fresh
 abbrev pub may_stand : Entry → Bool

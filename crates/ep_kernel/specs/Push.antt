@@ -15,7 +15,8 @@ use Rattle.ep_kernel.specs.declared.beside.Beside.{Beside}
 use Rattle.ep_machine.specs.Lists.{is_among}
 use Rattle.ep_nest.specs.declared.link.Link.{Link}
 use Rattle.ep_calls.specs.Climb.{is_reached_key}
-use Rattle.ep_ready.specs.ReadyLists.{Lists, entry_id, instance_at, list_at}
+use Rattle.ep_rings.specs.KeyWalk.{entry_id}
+use Rattle.ep_ready.specs.ReadyLists.{Lists, instance_at, list_at}
 
 -- whether a place is on the list of an instance
 abbrev pub is_home : ℕ → Option ℕ → Bool

@@ -1,5 +1,5 @@
 -- What holds of the kernel with ready lists between two events, and what the spread of an event does to its lists.
-use Rattle.std.specs.Prelude.{[], List, vec_capacity, ℕ, ◌≡◌}
+use Rattle.std.specs.Prelude.{[], ◌+◌, List, length, ℕ, ◌≡◌}
 use Rattle.ep_alarms.specs.Alarms.{AreSet}
 use Rattle.ep_base.specs.declared.record.Record.{Record}
 use Rattle.ep_calls.specs.Ends.{Spreads}
@@ -27,7 +27,7 @@ pub record Runs (past : List Record) (p : Parts) (l : Lists) : Type 0 where
 
 abbrev pub book_of : Inside → ReadyBook
 book_of k = record {
-  book = record { limits = k.parts.tables.limits; past = k.history.items; capacity = vec_capacity k.history };
+  book = record { limits = k.parts.tables.limits; past = k.history.items; capacity = length k.history.items + k.history.room };
   lists = lists_of k.parts k.beside.lists;
 }
 

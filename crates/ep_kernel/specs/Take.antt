@@ -4,7 +4,8 @@ use Rattle.ep_base.specs.declared.ids.EntryId.{EntryId}
 use Rattle.ep_interest.specs.Registrations.{Registrations, entry_under}
 use Rattle.ep_interest.specs.declared.entry.Entry.{Entry}
 use Rattle.ep_machine.specs.Bits.{ET, has_bit}
-use Rattle.ep_ready.specs.ReadyLists.{Lists, entry_id, instance_at, list_at}
+use Rattle.ep_rings.specs.KeyWalk.{entry_id}
+use Rattle.ep_ready.specs.ReadyLists.{Lists, instance_at, list_at}
 
 -- one list has these keys now, and all else is what it was
 pub record SetsList (old new : Lists) (instance : ℕ) (keys : List ℕ) : Type 0 where

@@ -12,7 +12,8 @@ use Rattle.ep_kernel.specs.Listed.{HavePlaces, MayStand, key_shows}
 use Rattle.ep_machine.specs.Files.{named_by}
 use Rattle.ep_machine.specs.Lists.{is_among}
 use Rattle.ep_machine.specs.Watches.{is_del}
-use Rattle.ep_ready.specs.ReadyLists.{Lists, entry_id, list_at, stands}
+use Rattle.ep_rings.specs.KeyWalk.{entry_id}
+use Rattle.ep_ready.specs.ReadyLists.{Lists, list_at, stands}
 
 -- what an epoll_ctl added or modified stands on its list, where it is reportable
 abbrev pub AlteredStand : Event → Parts → Parts → Lists → Type 0

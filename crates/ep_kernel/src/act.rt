@@ -16,22 +16,9 @@ ghost use Rattle.ep_park.specs.Waiters.{is_caller};
 use crate::beside::Beside;
 use crate::control::epoll_ctl;
 use crate::wait::{epoll_wait, resume};
-use ep_base::{Call, CallerId, Errno, Event, EventNumber, Pid};
-use ep_calls::{Control, Outcome, Parts, Wait};
+use ep_base::{Call, Errno, Event, Pid};
+use ep_calls::{Control, Outcome, Parts, Request, Wait};
 use std::alloc::AllocError;
-
-/// The number of an event, who makes it, and whether a second record of it is asked for.
-#[derive(Clone, Copy)]
-pub struct Request {
-    /// The number of the event.
-    pub step: EventNumber,
-    /// Who makes it.
-    pub caller: CallerId,
-    /// Whether a second record of it is asked for.
-    pub kept: bool,
-    /// Whether there is room for the timer that it may create.
-    pub has_room: bool,
-}
 
 /// A call of a process that is there.
 /// A refusal and an `Err`, which is want of memory, leave the parts and the lists. An `Err` comes only if nothing

@@ -4,7 +4,8 @@ ghost use Rattle.ep_kernel.specs.Asked.{answer_of, noted};
 ghost use Rattle.ep_ready.specs.ReadyLists.{empty};
 
 use ep_base::DescId;
-use ep_ready::{ReadyLists, Walk};
+use ep_ready::ReadyLists;
+use ep_walk::Walk;
 use std::alloc::{AllocError, Global};
 
 /// The instances that were asked whether they are ready since the answers were last forgotten, by what they answered.

@@ -12,7 +12,8 @@ use ep_base::{DescId, EntryId, Mask};
 use ep_calls::{Named, Raising};
 use ep_choice::Choice;
 use ep_interest::Interest;
-use ep_ready::{ReadyLists, Walk};
+use ep_ready::ReadyLists;
+use ep_walk::Walk;
 use std::alloc::{AllocError, Global};
 
 /// What stands beside the parts. The ready lists and the hopes have a place for each registration, and what comes to

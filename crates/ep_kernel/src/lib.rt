@@ -15,5 +15,7 @@ mod ready;
 mod settle;
 mod take;
 mod wait;
+mod watches;
 
 pub use crate::ready::ReadyKernel;
+pub use crate::watches::Watch;

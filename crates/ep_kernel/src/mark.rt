@@ -23,7 +23,12 @@ impl Readiness for Asked {
 
 /// Sets marks at the end of an event, as ep_choice does, by what the hopes tell. Each instance below those that are
 /// looked at is asked once. All that is reportable stays among the hopes, and the lists stay.
-pub fn mark(parts: &mut Parts, beside: &mut Beside, attend: Option<DescId>, step: EventNumber)
+pub fn mark_by_hopes(
+    parts: &mut Parts,
+    beside: &mut Beside,
+    attend: Option<DescId>,
+    step: EventNumber,
+)
     requires step { 0 < step }
     requires hopes { HopesFor parts.old beside.old.asked.hopes }
     requires fits { Fits parts.old beside.old.reached beside.old.choice }
@@ -40,7 +45,7 @@ pub fn mark(parts: &mut Parts, beside: &mut Beside, attend: Option<DescId>, step
     ensures lists { beside.new.lists ≡ beside.old.lists }
 {
     beside.asked.forget();
-    ep_choice::mark(
+    ep_choice::mark_woken(
         parts,
         &mut beside.asked,
         &mut beside.reached,

@@ -8,7 +8,7 @@ ghost use Rattle.ep_kernel.specs.Beside.{Both, Each};
 ghost use Rattle.ep_kernel.specs.Listed.{HavePlaces, may_stand as may_be_listed};
 ghost use Rattle.ep_kernel.specs.Push.{Gains, comes_in, comes_on, passes_found};
 ghost use Rattle.ep_table.specs.Value.{number_under};
-ghost use Rattle.ep_ready.specs.ReadyLists.{entry_id};
+ghost use Rattle.ep_rings.specs.KeyWalk.{entry_id};
 
 use crate::beside::Beside;
 use bitflags::Flags;
@@ -28,7 +28,7 @@ fn passes(interest: &Interest, id: EntryId) -> bool
     ensures { result ≡ passes_found (entry_under interest.now id) }
 {
     match interest.get(id) {
-        Some(entry) => entry.passes_in.0 > 0 && may_stand(entry),
+        Some(entry) => entry.passes_in.is_event() && may_stand(entry),
         None => false,
     }
 }

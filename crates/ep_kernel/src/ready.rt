@@ -1,31 +1,36 @@
 //! The kernel with ready lists.
-ghost use Rattle.std.specs.Prelude.{◌≡◌, ◌<◌, ◌≤◌, [], All, IfOk, IsOk, None, OnErr, false, length, true, vec_capacity, vec_len, ℕ};
+ghost use Rattle.std.specs.Prelude.{◌≡◌, ◌<◌, ◌≤◌, [], All, IfOk, IsOk, MatchOption, None, OnErr, false, length, true, vec_capacity, vec_len, ℕ};
 ghost use Rattle.ep_base.specs.Call.{EventHasNoBytes};
+ghost use Rattle.ep_base.specs.declared.errno.Errno.TheVariants.{Einval};
 ghost use Rattle.ep_calls.specs.Acts.{Acts, Adds, ComesLast, IsUnrefused, is_no_memory};
 ghost use Rattle.ep_calls.specs.KeptRecords.{Gains, HasRecord, KeepsRecord};
 ghost use Rattle.ep_calls.specs.Parts.{AreCoherent};
 ghost use Rattle.ep_calls.specs.Spared.{IsSpared};
 ghost use Rattle.ep_interest.specs.Registrations.{IsSound};
 ghost use Rattle.ep_kernel.specs.ReadyBook.{ActsOnLists, MayBeListed, TurnsLists, listed, state_of};
+ghost use Rattle.ep_kernel.specs.Watches.{Tells, TellsNone, refused_with, told_at};
 ghost use Rattle.ep_law.specs.Laws.{EndsAreApart, ReportablesAreSpread, is_reportable_in};
-ghost use Rattle.ep_machine.specs.Files.{object_of};
+ghost use Rattle.ep_machine.specs.Files.{named_by, object_of};
 ghost use Rattle.ep_machine.specs.Lists.{are_distinct, is_among};
+ghost use Rattle.ep_machine.specs.Waits.{waiter_of};
 ghost use Rattle.ep_order.specs.Event.{ListsGoOn};
 ghost use Rattle.ep_order.specs.Mark.{MarkedAreLookedAt};
 ghost use Rattle.ep_ready.specs.ReadyLists.{IsSound as AreSoundLists};
 ghost use Rattle.ep_table.specs.Value.{Sound as SoundTables};
 ghost use Rattle.ep_view.specs.AtRest.{IsSteady, kind_of};
 
-use crate::act::{Request, act};
+use crate::act::act;
 use crate::beside::Beside;
 use crate::settle::{know, rest, spread};
+use crate::watches::{Watch, ask, find_named, find_wait};
 use ep_alarms::{Alarms, find_called};
-use ep_base::{Answer, CallerId, Errno, Event, EventNumber, Limits, Moment, Record};
-use ep_calls::{Kernel, Parts, Spare};
+use ep_base::{Answer, CallerId, Errno, Event, EventNumber, Fd, Limits, Moment, Pid, Record};
+use ep_calls::{Kernel, Parts, Request, Spare};
 use ep_climb::{attend, left, resumed_at};
 use ep_law::laws::{ends_are_apart, reportables_are_spread};
 use ep_order::{lists_go_on, marked_are_looked_at};
 use ep_ready::ReadyLists;
+use ep_records::History;
 use std::alloc::{AllocError, Global};
 use std::marker::Model;
 
@@ -38,7 +43,7 @@ pub struct ReadyKernel {
     // The ready lists, the hopes, and what is noted in the course of an event and says nothing between two events.
     beside: Beside,
     alarms: Alarms,
-    history: Vec<Record>,
+    history: History,
 }
 
 impl Model for ReadyKernel {
@@ -85,7 +90,7 @@ impl ReadyKernel {
             parts: Parts::new(alloc, limits)?,
             beside: Beside::new(alloc),
             alarms: Alarms::new(alloc),
-            history: Vec::new(alloc),
+            history: History::new(alloc),
         })
     }
 
@@ -106,6 +111,41 @@ impl ReadyKernel {
     {
         know(&self.parts);
         self.beside.lists.known();
+    }
+
+    /// Tells the registrations of the instance that a descriptor number of a process names, in the order in which they
+    /// were added: as many as have room, from its beginning, and the rest of the room stays. `Ok` is how many there
+    /// are, which may be more than have room. `Err` leaves the room: EBADF if the number names nothing, or the process
+    /// isn't there, EINVAL if it names no instance. Callers may be parked there or not.
+    /// It is a question: nothing that contracts see of the kernel changes. It takes no memory. Each registration of the
+    /// instance is visited, and each instance that one of them watches is asked once, as a wait asks it.
+    pub fn watches(&mut self, pid: Pid, epfd: Fd, room: &mut [Watch]) -> Result<usize, Errno>
+        ensures tells { MatchOption (refused_with (state_of self.old).files pid.0 epfd.0)
+            (Tells (told_at (state_of self.old) (named_by (state_of self.old).files pid.0 epfd.0))
+            result room.old room.new)
+            (λ e. TellsNone e result room.old room.new) }
+        ensures stays { self.new ≡ self.old }
+    {
+        know(&self.parts);
+        let instance = find_named(&self.parts, pid, epfd)?;
+        let count = ask(&self.parts, &mut self.beside, instance, room);
+        Ok(count)
+    }
+
+    /// The same of the instance at which a caller is parked, whether a descriptor still names it or not. `Err` leaves
+    /// the room: EINVAL if the caller isn't parked.
+    pub fn watches_awaited(&mut self, caller: CallerId, room: &mut [Watch]) -> Result<usize, Errno>
+        ensures tells { MatchOption (waiter_of (state_of self.old) caller.0)
+            (TellsNone Einval result room.old room.new)
+            (λ w. Tells (told_at (state_of self.old) w.instance) result room.old room.new) }
+        ensures stays { self.new ≡ self.old }
+    {
+        know(&self.parts);
+        let Some(waiter) = find_wait(&self.parts, caller) else {
+            return Err(Errno::Einval);
+        };
+        let count = ask(&self.parts, &mut self.beside, waiter.instance, room);
+        Ok(count)
     }
 
     /// One event. `kept`: what a second record of it is made of is asked for.
@@ -151,7 +191,6 @@ impl ReadyKernel {
         self.alarms
             .follow(&self.parts, &event, called, &outcome, has_room);
         let raising = outcome.raising;
-        let (answer, spare, record) = outcome.into_record(caller, event, kept);
         // A copy, since the prover takes what is passed on as moved.
         let raised = raising;
         spread(
@@ -164,7 +203,7 @@ impl ReadyKernel {
         self.beside.lists.known();
         let attended = attend(left(&self.parts, caller, resumed), raising);
         rest(&mut self.parts, &mut self.beside, attended, step);
-        self.history.push_reserved(record);
+        let (answer, spare) = outcome.put_record(&mut self.history, caller, event, kept);
         Ok((answer, spare))
     }
 
@@ -271,7 +310,7 @@ impl Kernel for ReadyKernel {
         self.history.reserve(additional)
     }
 
-    fn history(&self) -> &[Record] {
+    fn history(&self) -> &History {
         &self.history
     }
 

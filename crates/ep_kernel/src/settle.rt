@@ -16,7 +16,7 @@ ghost use Rattle.ep_table.specs.Value.{Sound};
 
 use crate::beside::Beside;
 use crate::climb::climb;
-use crate::mark::mark;
+use crate::mark::mark_by_hopes;
 use crate::places::drop_dying;
 use ep_alarms::{Alarms, burial_leaves_alarms};
 use ep_base::{DescId, EventNumber};
@@ -83,6 +83,6 @@ pub fn rest(parts: &mut Parts, beside: &mut Beside, attend: Option<DescId>, step
     ensures unlost { beside.new.choice.lost.reached ≡ [] }
     ensures lists { beside.new.lists ≡ beside.old.lists }
 {
-    mark(parts, beside, attend, step);
+    mark_by_hopes(parts, beside, attend, step);
     parts.forget_passed();
 }

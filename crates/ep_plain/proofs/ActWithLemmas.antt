@@ -2,6 +2,7 @@
 use Rattle.std.proofs.Common.{◌≡◌, ◌∙◌, ℕ, Bool, true, false, List, [], ◌∷◌, None, Option, Some, ap, is_none, is_some, refl, subst, sym}
 use Rattle.std.specs.Prelude.{MatchOption}
 use Rattle.std.proofs.lemmas.Bool.{false≢true}
+use Rattle.ep_facts.proofs.OptionFacts.{some_not_none}
 use Rattle.ep_base.specs.declared.answer.Answer.{Answer}
 use Rattle.ep_base.specs.declared.call.Event.{Event}
 use Rattle.ep_base.specs.declared.call.Event.TheVariants.{Call as CallOf, Resume}
@@ -38,10 +39,6 @@ does_where Also Other n tests changed outcome old new does also = record {
   limits = does.limits;
   keys = does.keys;
 }
-
-some_not_none : {X : Type 0} (o : Option X) → is_some o ≡ true → is_none o ≡ false
-some_not_none None h = sym h
-some_not_none (Some x) h = refl
 
 -- a call that waits
 module _ (p : Parts) (n caller : ℕ) (args : Wait) (instance : DescId) (picks : List ℕ) where

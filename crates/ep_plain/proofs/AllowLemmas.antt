@@ -2,16 +2,17 @@
 use Rattle.std.proofs.Common.{get_or, ◌≡◌, ◌==◌, ◌&&◌, ◌||◌, ◌≤◌, ◌∙◌, ℕ, All, Bool, true, false, IsSome, List, [], ◌∷◌, Option, Some, ap, arith, inl, inr, is_some, length, map, min, nat_le, nat_lt, refl, subst, sym, unwrap_or}
 use Rattle.std.specs.List.{list_all}
 use Rattle.std.proofs.lemmas.Bool.{cases_Bool}
-use Rattle.std.proofs.lemmas.Bool.Decides.{nat_tests}
 use Rattle.std.proofs.lemmas.Cmp.{nat_eq_equiv}
 use Rattle.std.proofs.lemmas.List.{length-map}
 use Rattle.std.proofs.lemmas.List.Elements.{All-cons, All-head, All-map, All-nil, All-tail}
 use Rattle.std.proofs.lemmas.Map.Made.{length-le_from_is_member}
+use Rattle.ep_facts.proofs.OptionFacts.{value_of}
+use Rattle.ep_facts.proofs.BoolFacts.{both_true, or_left, or_right, same_bools, second_of_and}
+use Rattle.ep_facts.proofs.NatFacts.{from_le, from_test, le_test, same_test}
 use Rattle.ep_base.specs.declared.ids.DescId.{DescId}
 use Rattle.ep_base.specs.declared.ids.EntryId.{EntryId}
 use Rattle.ep_calls.proofs.EntryKeyLemmas.{id_is}
 use Rattle.ep_calls.proofs.EntryLemmas.{number_of, one_under}
-use Rattle.ep_calls.proofs.FindLemmas.{same_bools}
 use Rattle.ep_calls.specs.Moves.{StandFor}
 use Rattle.ep_calls.specs.Parts.{Parts}
 use Rattle.ep_calls.specs.Readiness.{readiness}
@@ -23,22 +24,21 @@ use Rattle.ep_dates.specs.Pick.{IsPick, IsReportable}
 use Rattle.ep_interest.specs.Registrations.{IsSound, Registrations, id_of, number_under as number_of_key}
 use Rattle.ep_interest.specs.declared.entry.Entry.{Entry}
 use Rattle.ep_law.proofs.GraphLemmas.{member_of_map}
-use Rattle.ep_law.proofs.ListLemmas.{all_member, among, among_member, each_found, filtered_member, filtered_passes, find_member, found_member, list_all_member, mapped_member, member_map, second_of_and}
+use Rattle.ep_law.proofs.ListLemmas.{all_member, among, among_member, each_found, filtered_member, filtered_passes, find_member, found_member, list_all_member, mapped_member, member_map}
 use Rattle.ep_law.proofs.PickLemmas.{distinct_filter, numbers}
-use Rattle.ep_law.proofs.TestLemmas.{both_true, from_test, or_left, or_right, same_test}
 use Rattle.ep_law.specs.Laws.{Member}
 use Rattle.ep_law.specs.Sound.{Sound}
 use Rattle.ep_machine.specs.Lists.{are_distinct, is_among}
 use Rattle.ep_machine.specs.Readiness.{is_reportable, reportables}
 use Rattle.ep_machine.specs.Report.{find_watch, is_fair_to, is_pick, watches_at}
 use Rattle.ep_machine.specs.State.{State, Watch}
-use Rattle.ep_order.proofs.PickLemmas.{all_found, le_test, list_all_of, some_found, sought}
+use Rattle.ep_order.proofs.PickLemmas.{all_found, list_all_of, sought}
 use Rattle.ep_plain.proofs.ChooseLemmas.{scans}
 use Rattle.ep_plain.proofs.TakeLemmas.{found_of, numbered_of, reportable_of, some_same}
 use Rattle.ep_plain.specs.Choose.{reportables_at}
 use Rattle.ep_plain.specs.Exact.{TellsShown}
 use Rattle.ep_plain.specs.Since.{IsDated}
-use Rattle.ep_rings.specs.KeyWalk.{id_at as key_of}
+use Rattle.ep_rings.specs.KeyWalk.{entry_id as key_of}
 use Rattle.ep_rings.specs.PlacedRows.{keys_at}
 use Rattle.ep_table.specs.Value.{Sound as SoundTables, number_under}
 use Rattle.ep_view.proofs.KernelViewLemmas.{readiness as machine_readiness, reportable_kept}
@@ -60,9 +60,6 @@ dated_shown p d s stands dated =
 -- lists that are the same once each is mapped have members that are
 alike : {X Y Z : Type 0} (f : X → Z) (g : Y → Z) (xs : List X) (ys : List Y) → map f xs ≡ map g ys → (x : X) → Member x xs → (y : Y) × Member y ys × (g y ≡ f x)
 alike {X} {Y} {Z} f g xs ys e x m = member_of_map g ys (f x) (subst (λ (zs : List Z). Member (f x) zs) e (member_map f x xs m))
-
-from_le : (a b : ℕ) → nat_le a b ≡ true → a ≤ b
-from_le a b h = grind (arith, nat_tests, h)
 
 -- A report at an instance, by the dates and by the machine.
 module _ (p : Parts) (d : Dates) (s : State) (instance : DescId) (steady : Sound s) (stands : StandFor p s) (dated : IsDated s d.since) (linked : AreLinked p.tables p.interest) (tables : SoundTables p.tables) (lives : IsSome (number_under p.tables instance)) (sound : IsSound p.interest) (kept : AreKept p.interest d) where
@@ -185,7 +182,7 @@ module _ (p : Parts) (d : Dates) (s : State) (instance : DescId) (steady : Sound
         let two = both_true (are_distinct ks && length told == length ks) (length ks == min most (length ready)) three.0 in
         let one = both_true (are_distinct ks) (length told == length ks) two.0 in
         let long = from_test (length told) (length ks) one.1 in
-        let at : (k : ℕ) → is_among ks k ≡ true → (z : Watch) × (find_watch ready k ≡ Some z) = λ k on. some_found (find_watch ready k) (each_found (find_watch ready) ks k long (among_member ks k on)) in
+        let at : (k : ℕ) → is_among ks k ≡ true → (z : Watch) × (find_watch ready k ≡ Some z) = λ k on. value_of (find_watch ready k) (each_found (find_watch ready) ks k long (among_member ks k on)) in
         let entry : (k : ℕ) (z : Watch) → find_watch ready k ≡ Some z → HasEntry z = λ k z is. has_entry z (find_member ready k z is).0 in
         record {
           distinct = one.0;

@@ -1,7 +1,11 @@
 -- What is raised in an event, and what the dead take along, leaves the dates those of the registrations.
-use Rattle.std.proofs.Common.{◌≡◌, ◌==◌, ◌&&◌, ◌||◌, ◌∙◌, ◌++◌, ◌∷◌, ℕ, Bool, true, false, IsSome, List, [], None, Option, Some, ap, append-nil, arith, filter, inl, inr, map, nat_lt, not, refl, subst, sym, unwrap_or}
+use Rattle.std.proofs.Common.{◌≡◌, ◌==◌, ◌||◌, ◌∙◌, ◌++◌, ◌∷◌, ℕ, Bool, true, IsSome, List, [], Option, Some, ap, append-nil, arith, filter, inl, inr, map, nat_lt, not, refl, subst, sym, unwrap_or}
 use Rattle.std.specs.List.{list_any}
 use Rattle.std.proofs.lemmas.Bool.{cases_Bool, false≢true}
+use Rattle.ep_facts.proofs.NatFacts.{from_test, same_test}
+use Rattle.ep_facts.proofs.OptionFacts.{none_is_some}
+use Rattle.ep_facts.proofs.BoolFacts.{from_not_false, or_by_not, or_swap}
+use Rattle.ep_facts.proofs.ListFacts.{head_same, tail_same}
 use Rattle.ep_base.specs.declared.ids.DescId.{DescId}
 use Rattle.ep_base.specs.declared.ids.EntryId.{EntryId}
 use Rattle.ep_calls.proofs.EntryLemmas.{holds_under, key_of as key_of_member, member_of, number_of, one_under, own}
@@ -16,7 +20,6 @@ use Rattle.ep_interest.specs.Registrations.{IsSound, Registrations, entry_found,
 use Rattle.ep_interest.specs.declared.entry.Entry.{Entry}
 use Rattle.ep_law.proofs.GraphLemmas.{member_of_map}
 use Rattle.ep_law.proofs.ListLemmas.{filtered_member, filtered_passes, member_filter, member_map}
-use Rattle.ep_law.proofs.TestLemmas.{from_test, same_test}
 use Rattle.ep_law.specs.Laws.{Member}
 use Rattle.ep_machine.specs.Deaths.{die_all}
 use Rattle.ep_machine.specs.Files.{Place}
@@ -27,17 +30,6 @@ use Rattle.ep_table.specs.Value.{Seen, Sound as SoundTables, number_under as des
 use Rattle.ep_view.specs.KernelView.{KernelWatch, freshened}
 
 -- What dies by keys is what dies by numbers.
-head_is : {X : Type 0} (x y : X) (xs ys : List X) → x ∷ xs ≡ y ∷ ys → x ≡ y
-head_is x y xs ys e = cc
-
-tail_is : {X : Type 0} (x y : X) (xs ys : List X) → x ∷ xs ≡ y ∷ ys → xs ≡ ys
-tail_is x y xs ys e = cc
-
-either_more : (a b c d : Bool) → ((a || b) || (c || d)) ≡ ((a || c) || (b || d))
-either_more true b c d = refl
-either_more false true true d = refl
-either_more false true false d = refl
-either_more false false c d = refl
 
 -- some of these descriptions has one of the two keys
 any_desc : (v : Seen) → SoundTables v → (a b : DescId) → IsSome (desc_number v a) → IsSome (desc_number v b) → (descs : List DescId) (ds : List ℕ) → map (desc_number v) descs ≡ map Some ds
@@ -46,24 +38,12 @@ any_desc v sound a b la lb [] [] e = refl
 any_desc v sound a b la lb [] (d ∷ ds) e = absurd (cc)
 any_desc v sound a b la lb (desc ∷ descs) [] e = absurd (cc)
 any_desc v sound a b la lb (desc ∷ descs) (d ∷ ds) e =
-    let here : desc_number v desc ≡ Some d = head_is _ _ _ _ e in
+    let here : desc_number v desc ≡ Some d = head_same _ _ _ _ e in
     let lives : IsSome (desc_number v desc) = subst (λ (o : Option ℕ). IsSome o) (sym here) refl in
     let number : number_at v.keys desc ≡ d = ap (λ (o : Option ℕ). unwrap_or o 0) here in
     let one = λ (x : DescId) (lx : IsSome (desc_number v x)). sym (same_keys v x desc sound lx lives) ∙ ap (λ (n : ℕ). number_at v.keys x == n) number in
-    let rest = any_desc v sound a b la lb descs ds (tail_is _ _ _ _ e) in
-    (λ i. (one a la i || one b lb i) || rest i) ∙ either_more (number_at v.keys a == d) (number_at v.keys b == d) (is_among ds (number_at v.keys a)) (is_among ds (number_at v.keys b))
-
-either_not : (a b : Bool) → (a || b) ≡ not (not a && not b)
-either_not true b = refl
-either_not false true = refl
-either_not false false = refl
-
-not_true : (b : Bool) → not b ≡ false → b ≡ true
-not_true true h = refl
-not_true false h = absurd (false≢true (sym h))
-
-no_number : (n : ℕ) (o : Option ℕ) → o ≡ None → o ≡ Some n → ⊥
-no_number n o a b = absurd (let e : None ≡ Some n = sym a ∙ b in cc)
+    let rest = any_desc v sound a b la lb descs ds (tail_same _ _ _ _ e) in
+    (λ i. (one a la i || one b lb i) || rest i) ∙ or_swap (number_at v.keys a == d) (number_at v.keys b == d) (is_among ds (number_at v.keys a)) (is_among ds (number_at v.keys b))
 
 -- The dead are gone, with their registrations and those on them.
 module _ (n : ℕ) (v w : Seen) (r q : Registrations) (burial : Burial n v r w q) (ids : KeepsIds r q) (was : IsSound r) (now : IsSound q) (linked : AreLinked v r) where
@@ -99,7 +79,7 @@ module _ (n : ℕ) (v w : Seen) (r q : Registrations) (burial : Burial n v r w q
       let x = z.0 in
       let number : x.number ≡ y.number = ap (λ (k : KernelWatch). k.number) z.2 ∙ ap (λ (k : KernelWatch). k.number) u.2 in
       let numbers : number_at v.keys x.instance ≡ number_at w.keys y.instance = ap (λ (k : KernelWatch). k.instance) z.2 ∙ ap (λ (k : KernelWatch). k.instance) u.2 in
-      let before : number_under r id ≡ Some y.number = elim (ids id) [ inl none ↦ absurd (no_number y.number _ none (number_of q id y at)) | inr same ↦ sym same ∙ number_of q id y at ] in
+      let before : number_under r id ≡ Some y.number = elim (ids id) [ inl none ↦ absurd (none_is_some y.number _ none (number_of q id y at)) | inr same ↦ sym same ∙ number_of q id y at ] in
       let there : entry_under r id ≡ Some x = ap (entry_found r.entries) (before ∙ ap (λ (k : ℕ). Some k) (sym number)) ∙ own r was x z.1 in
       record {
         it = record {
@@ -140,7 +120,7 @@ module _ (n : ℕ) (v w : Seen) (r q : Registrations) (burial : Burial n v r w q
     touched_is id x at =
         let link = holds_under (IsLinked v.keys) r id x linked at in
         ap (λ (o : Option Entry). list_any (λ desc. touches_found desc.0 o) dying) at
-        ∙ (any_desc v burial.sound x.instance x.desc link.instance link.desc dying dead all_dead ∙ either_not (is_among dead (number_at v.keys x.instance)) (is_among dead (number_at v.keys x.desc)))
+        ∙ (any_desc v burial.sound x.instance x.desc link.instance link.desc dying dead all_dead ∙ or_by_not (is_among dead (number_at v.keys x.instance)) (is_among dead (number_at v.keys x.desc)))
 
     module _ (d e : Dates) (drops : Drops r (touches_any r dying) d e) where
       moves_buried : Moves e r q
@@ -148,7 +128,7 @@ module _ (n : ℕ) (v w : Seen) (r q : Registrations) (burial : Burial n v r w q
         each = λ id y at. inl (each_buried id y at);
         left = λ id x at dated. elim (cases_Bool (touches_any r dying id.0)) [
           | inl gone ↦ absurd (false≢true (sym (ap (nat_lt 0) (drops.goes id x at gone)) ∙ dated))
-          | inr stay ↦ left_under id x at (not_true (stays (watch_at v.keys x)) (sym (touched_is id x at) ∙ stay))
+          | inr stay ↦ left_under id x at (from_not_false (stays (watch_at v.keys x)) (sym (touched_is id x at) ∙ stay))
         ];
       }
 

@@ -1,5 +1,7 @@
 -- What an event leaves of dates, and that each registration that is reportable at its end has one, or may have come to be so.
-use Rattle.std.proofs.Common.{◌≡◌, ◌∙◌, ◌+◌, ◌&&◌, ◌||◌, ◌⊎◌, ◌++◌, ℕ, All, Bool, IsSome, List, [], ◌∷◌, Option, Some, ap, inl, inr, length, map, nat_lt, subst, sym, true}
+use Rattle.std.proofs.Common.{◌≡◌, ◌∙◌, ◌+◌, ◌&&◌, ◌||◌, ◌⊎◌, ℕ, All, Bool, IsSome, List, Option, Some, ap, inl, inr, length, map, nat_lt, subst, sym, true}
+use Rattle.ep_facts.proofs.NatFacts.{same_nat}
+use Rattle.ep_facts.proofs.BoolFacts.{or_left, or_right, second_of_and}
 use Rattle.ep_base.specs.declared.call.Event.{Event}
 use Rattle.ep_base.specs.declared.ids.CallerId.{CallerId}
 use Rattle.ep_base.specs.declared.ids.DescId.{DescId}
@@ -21,15 +23,14 @@ use Rattle.ep_dates.specs.Touched.{is_it, is_on_any, may_come, watches_any}
 use Rattle.ep_interest.specs.Passes.{passes_on}
 use Rattle.ep_interest.specs.Registrations.{entry_under}
 use Rattle.ep_interest.specs.declared.entry.Entry.{Entry}
-use Rattle.ep_law.proofs.ListLemmas.{all_member, second_of_and}
-use Rattle.ep_law.proofs.TestLemmas.{or_left, or_right, same_nat}
+use Rattle.ep_law.proofs.ListLemmas.{all_member}
 use Rattle.ep_law.specs.Laws.{ReportablesAreSpread}
 use Rattle.ep_machine.specs.Bits.{IN, asked}
 use Rattle.ep_machine.specs.Lists.{is_among}
 use Rattle.ep_machine.specs.Readiness.{is_reportable}
 use Rattle.ep_machine.specs.State.{State}
 use Rattle.ep_machine.specs.Step.{next_event}
-use Rattle.ep_plain.proofs.NamedLemmas.{is_named}
+use Rattle.ep_plain.proofs.NamedLemmas.{done_altered, is_named}
 use Rattle.ep_plain.proofs.ReportedLemmas.{was_then}
 use Rattle.ep_plain.proofs.SinceLemmas.{begun_dated}
 use Rattle.ep_plain.specs.Dating.{touched_in}
@@ -41,7 +42,7 @@ use Rattle.ep_table.specs.Value.{Seen, Sound as SoundTables, number_under as des
 use Rattle.ep_view.specs.KernelView.{reached_now}
 
 -- What is left has the dates that it had.
-module _ (n : ℕ) (event : Event) (outcome : Outcome) (old mid left : Parts) (d e f : Dating) (follows : Follows n event outcome.picked old d mid e) (spread : SpreadsTo n outcome.raising mid e left f) where
+module _ (n : ℕ) (event : Event) (outcome : Outcome) (old mid left : Parts) (d e f : Dating) (follows : Follows n event outcome.answer outcome.picked old d mid e) (spread : SpreadsTo n outcome.raising mid e left f) where
   pub date_left : (id : EntryId) (x : Entry) → entry_under left.interest id ≡ Some x → event_at f.dates.since x.number ≡ event_at d.dates.since x.number
   date_left id x up =
       let w = was_then n outcome.raising mid left spread.spreads id x up in
@@ -78,7 +79,7 @@ module _ (n : ℕ) (event : Event) (outcome : Outcome) (old mid left : Parts) (d
 
 module _ (law : ReportablesAreSpread) (past : List Record) (old mid left : Parts) (keeps : Keeps past old) (caller : CallerId) (event : Event) (outcome : Outcome) (n : ℕ) (at : n ≡ length past + 1)
     (does : DoesAt (next_event keeps.state) caller.0 event outcome old mid) (keys : KeepsKeys old.tables mid.tables) (sound : SoundTables old.tables) (d e f : Dating) (dated : IsDated keeps.state d.dates.since)
-    (follows : Follows n event outcome.picked old d mid e) (spread : SpreadsTo n outcome.raising mid e left f) (called : Option DescId) where
+    (follows : Follows n event outcome.answer outcome.picked old d mid e) (spread : SpreadsTo n outcome.raising mid e left f) (called : Option DescId) where
   abbrev b : State
   b = next_event keeps.state
 
@@ -99,7 +100,7 @@ module _ (law : ReportablesAreSpread) (past : List Record) (old mid left : Parts
       let leaves = spread.spreads.leaves in
       let link = holds_under (IsLinked mid.tables.keys) mid.interest id w.was leaves.coherent.linked w.under in
       spread.altered
-      ∙ follows.altered id w.was w.under
+      ∙ follows.altered (done_altered old.tables.limits b b caller.0 event outcome.picked outcome.answer mid does.goes is.allowed is.left is.altered) id w.was w.under
       (is_named old.tables mid.tables keys sound leaves.tables old.tables.limits b caller.0 b keeps.stands.files keeps.stands.files event is.allowed is.left w.was link
       (w.instance ∙ is.instance) (w.fd ∙ is.fd) (w.target ∙ is.target) is.altered)
 

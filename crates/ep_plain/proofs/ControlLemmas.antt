@@ -1,12 +1,17 @@
 -- What an epoll_ctl leaves of the dates.
-use Rattle.std.proofs.Common.{◌≡◌, ◌≢◌, ◌<◌, ◌≤◌, ◌+◌, ◌==◌, ◌||◌, ◌&&◌, ◌∙◌, ◌⊎◌, ℕ, ℤ, All, Bool, true, false, IsSome, List, [], ◌∷◌, None, Option, Some, ap, arith, cond, inl, inr, is_some, length, nat_lt, not, refl, subst, sym, unwrap_or}
-use Rattle.std.specs.List.{list_any}
+use Rattle.std.proofs.Common.{◌≡◌, ◌≢◌, ◌<◌, ◌≤◌, ◌+◌, ◌==◌, ◌&&◌, ◌∙◌, ◌⊎◌, ℕ, ℤ, All, Bool, true, false, IsSome, List, [], ◌∷◌, None, Option, Some, ap, arith, cond, inl, inr, nat_lt, refl, subst, sym, unwrap_or}
 use Rattle.std.specs.Option.{option_map}
 use Rattle.std.specs.Ordering.{int_eq}
 use Rattle.std.specs.Prelude.{IfSome, MatchBool}
 use Rattle.std.proofs.lemmas.Bool.{cases_Bool, cases_eq, false≢true}
-use Rattle.std.proofs.lemmas.Bool.Decides.{Decides-int_eq, nat_tests}
+use Rattle.std.proofs.lemmas.Bool.Decides.{nat_tests}
 use Rattle.std.proofs.lemmas.List.Elements.{All-append, All-cons, All-filter, All-from_recursion, All-map, All-nil, All-weaker}
+use Rattle.std.proofs.lemmas.Option.{none-some}
+use Rattle.ep_facts.proofs.OptionFacts.{some_same, value_of}
+use Rattle.ep_facts.proofs.NatFacts.{from_test, same_int, same_nat, test_apart, zero_of as undated}
+use Rattle.ep_law.proofs.ListLemmas.{any_has}
+use Rattle.ep_base.specs.declared.answer.Answer.{Answer}
+use Rattle.ep_base.specs.declared.answer.Answer.TheVariants.{Done as Answered}
 use Rattle.ep_base.specs.declared.call.Event.TheVariants.{Call as CallOf}
 use Rattle.ep_base.specs.declared.ids.DescId.{DescId}
 use Rattle.ep_base.specs.declared.ids.EntryId.{EntryId}
@@ -19,7 +24,6 @@ use Rattle.ep_calls.proofs.FindLemmas.{has_number}
 use Rattle.ep_calls.specs.Climb.{is_nested_key}
 use Rattle.ep_calls.specs.Control.{Changes, Controls, IsFound, IsPlan, Names, code_of, control_call, is_done, is_refused_op, next_entry}
 use Rattle.ep_calls.specs.Parts.{Parts}
-use Rattle.ep_calls.specs.Stands.{AreLinked, IsLinked}
 use Rattle.ep_calls.specs.declared.control.Control.{Control}
 use Rattle.ep_calls.specs.declared.control.Named.{Named}
 use Rattle.ep_calls.specs.declared.control.Operation.{Operation}
@@ -31,7 +35,7 @@ use Rattle.ep_choice.proofs.NotesLostLemmas.{notes_controlled}
 use Rattle.ep_choice.proofs.SuitsLemmas.{room_deleted}
 use Rattle.ep_choice.specs.Lost.{NotesLost, deleted_by, deleted_home, with_home}
 use Rattle.ep_choice.specs.Room.{HaveRoom}
-use Rattle.ep_climb.proofs.SetLemmas.{apart_nat, clears_deleted, renewed, sets_added, sets_modified, some_of}
+use Rattle.ep_climb.proofs.SetLemmas.{clears_deleted, renewed, sets_added, sets_modified}
 use Rattle.ep_dates.proofs.DropLemmas.{drops_none, drops_one}
 use Rattle.ep_dates.specs.Dates.{Dates, ended, event_at, is_dated}
 use Rattle.ep_dates.specs.Drop.{Drops}
@@ -40,8 +44,6 @@ use Rattle.ep_dates.specs.Moves.{IsAdded, Moves}
 use Rattle.ep_interest.specs.Exclusive.{is_exclusive}
 use Rattle.ep_interest.specs.Registrations.{IsSound, Registrations, entry_found, entry_under, has_key, is_other, modified, number_under, numbered}
 use Rattle.ep_interest.specs.declared.entry.Entry.{Entry}
-use Rattle.ep_law.proofs.TestLemmas.{from_test, same_nat}
-use Rattle.ep_law.specs.Laws.{Member}
 use Rattle.ep_machine.specs.Bits.{EXCLUSIVE, has_bit}
 use Rattle.ep_machine.specs.Files.{under}
 use Rattle.ep_machine.specs.Lists.{is_among}
@@ -53,44 +55,30 @@ use Rattle.ep_plain.specs.Dating.{Fits, Grows, HasRoomFor}
 use Rattle.ep_plain.specs.Exact.{Follows, IsExact, IsNamed, TellsReports}
 use Rattle.ep_plain.specs.Loses.{Loses}
 use Rattle.ep_plain.specs.declared.dating.Dating.{Dating}
-use Rattle.ep_ready.specs.Walk.{Walk}
+use Rattle.ep_walk.specs.Walk.{Walk}
 use Rattle.ep_rings.specs.PlacedRows.{keys_at}
 use Rattle.ep_table.specs.Value.{Seen, Sound, number_under as desc_number}
-
-none_some : {A : Type 0} (a : A) → None ≡ Some a → ⊥
-none_some a h = absurd cc
 
 id_is : (a b : EntryId) → a.0 ≡ b.0 → a ≡ b
 id_is a b e = λ i. record { 0 = e i }
 
 -- Which registration an epoll_ctl names.
 
-any_has : (f : Entry → Bool) (xs : List Entry) (x : Entry) → Member x xs → f x ≡ true → list_any f xs ≡ true
-any_has f [] x m h = absurd m
-any_has f (y ∷ ys) x (inl e) h = ap (λ (b : Bool). b || list_any f ys) (ap f (sym e) ∙ h)
-any_has f (y ∷ ys) x (inr m) h = ap (λ (b : Bool). f y || b) (any_has f ys x m h) ∙ or_true (f y) where
-  or_true : (b : Bool) → (b || true) ≡ true
-  or_true true = refl
-  or_true false = refl
-
 -- the registration with these descriptions is the one that was found
 pub found_is : (r : Registrations) → IsSound r → (named : Named) (fd : Fd) (found : Option EntryId) → IsFound r named fd found
     → (id : EntryId) (x : Entry) → entry_under r id ≡ Some x → has_key named.instance fd named.desc x ≡ true → found ≡ Some id
 found_is r sound named fd None is id x at has = absurd (false≢true (is.there ∙ any_has (has_key named.instance fd named.desc) r.entries x (member_of r id x at) has))
 found_is r sound named fd (Some key) is id x at has =
-    let n = some_of (number_under r key) is.key in
+    let n = value_of (number_under r key) is.key in
     let P : Entry → Type 0 = λ y. has_key named.instance fd named.desc y ≡ (y.number == n.0) in
     let each = has_number r named.instance fd named.desc n.0 sound (sym is.there) (ap (λ (o : Option ℕ). numbered r.entries (unwrap_or o 0)) (sym n.1) ∙ is.entry) in
     let number : x.number ≡ n.0 = from_test x.number n.0 (sym (holds_under P r id x (All-from_recursion P r.entries each) at) ∙ has) in
     ap (λ (k : EntryId). Some k) (sound.one_key key id n.0 n.1 (number_of r id x at ∙ ap (λ (k : ℕ). Some k) number))
 
-same_int : (a : ℤ) → int_eq a a ≡ true
-same_int a = (Decides-int_eq a a).1 refl
-
 module _ (v : Seen) (sound : Sound v) where
   -- keys with one number are the same
   key_is : (a b : DescId) → desc_number v a ≡ desc_number v b → IsSome (desc_number v b) → a.0 ≡ b.0
-  key_is a b same lives = let n = some_of (desc_number v b) lives in sound.one a b n.0 (same ∙ n.1) n.1
+  key_is a b same lives = let n = value_of (desc_number v b) lives in sound.one a b n.0 (same ∙ n.1) n.1
 
   -- it has these descriptions
   module _ (pid : ℕ) (epfd fd : Fd) (named : Named) (instance : desc_number v named.instance ≡ under v.files pid epfd.0) (desc : desc_number v named.desc ≡ under v.files pid fd.0)
@@ -139,20 +127,17 @@ module _ (old new : Registrations) (was : IsSound old) (is : IsSound new) (named
   abbrev next : EntryId
   next = record { 0 = old.next }
 
-  some_one : (x y : Entry) → Some x ≡ Some y → x ≡ y
-  some_one x y e = ap (λ (o : Option Entry). unwrap_or o x) e
-
   edits_added : Changes Add None named args old new → Edits old new (λ k. false) (IsNext old named args)
   edits_added changes =
       let y = next_entry old named args in
       let sets = sets_added old new was next y refl changes.0 changes.1 in
       record {
         each = λ id x at. elim (cases_eq id.0 old.next) [
-          | inl e ↦ inr (e, some_one x y (sym at ∙ (ap (entry_under new) (id_is id next e) ∙ sets.here)))
+          | inl e ↦ inr (e, some_same x y (sym at ∙ (ap (entry_under new) (id_is id next e) ∙ sets.here)))
           | inr ne ↦ inl (same_about old id x (sym (sets.others id ne) ∙ at), refl)
         ];
         left = λ id x at h. elim (cases_eq id.0 old.next) [
-          | inl e ↦ absurd (none_some x (sym (ap (entry_found old.entries) changes.1.was) ∙ (ap (entry_under old) (sym (id_is id next e)) ∙ at)))
+          | inl e ↦ absurd (none-some x (sym (ap (entry_found old.entries) changes.1.was) ∙ (ap (entry_under old) (sym (id_is id next e)) ∙ at)))
           | inr ne ↦ (x, sets.others id ne ∙ at, refl)
         ];
         more = let le : y.number ≤ new.added = within new is next y sets.here in omega (arith, le);
@@ -166,7 +151,7 @@ module _ (old new : Registrations) (was : IsSound old) (is : IsSound new) (named
         record {
           each = λ id x at. elim (cases_eq id.0 key.0) [
             | inl e ↦
-                let same : renewed args.mask args.tag it ≡ x = sym (some_one x (renewed args.mask args.tag it) (sym at ∙ (ap (entry_under new) (id_is id key e) ∙ sets.here))) in
+                let same : renewed args.mask args.tag it ≡ x = sym (some_same x (renewed args.mask args.tag it) (sym at ∙ (ap (entry_under new) (id_is id key e) ∙ sets.here))) in
                 inl (
                   record {
                     was = it;
@@ -183,7 +168,7 @@ module _ (old new : Registrations) (was : IsSound old) (is : IsSound new) (named
           ];
           left = λ id x at h. elim (cases_eq id.0 key.0) [
             | inl e ↦
-                let same : it ≡ x = some_one it x (sym here ∙ (ap (entry_under old) (sym (id_is id key e)) ∙ at)) in
+                let same : it ≡ x = some_same it x (sym here ∙ (ap (entry_under old) (sym (id_is id key e)) ∙ at)) in
                 (renewed args.mask args.tag it, ap (entry_under new) (id_is id key e) ∙ sets.here, ap (λ (z : Entry). z.instance.0) same)
             | inr ne ↦ (x, sets.others id ne ∙ at, refl)
           ];
@@ -195,8 +180,8 @@ module _ (old new : Registrations) (was : IsSound old) (is : IsSound new) (named
         let clears = clears_deleted old new was key it here changes.0 changes.1 in
         record {
           each = λ id x at. elim (cases_eq id.0 key.0) [
-            | inl e ↦ absurd (none_some x (sym (ap (entry_found new.entries) clears.gone) ∙ (ap (entry_under new) (sym (id_is id key e)) ∙ at)))
-            | inr ne ↦ inl (same_about old id x (sym (clears.others id ne) ∙ at), apart_nat id.0 key.0 ne)
+            | inl e ↦ absurd (none-some x (sym (ap (entry_found new.entries) clears.gone) ∙ (ap (entry_under new) (sym (id_is id key e)) ∙ at)))
+            | inr ne ↦ inl (same_about old id x (sym (clears.others id ne) ∙ at), test_apart id.0 key.0 ne)
           ];
           left = λ id x at h. (x, clears.others id (λ e. false≢true (sym h ∙ (ap (λ (k : ℕ). k == key.0) e ∙ same_nat key.0))) ∙ at, refl);
           more = omega (arith, added);
@@ -239,36 +224,30 @@ module _ (r : Registrations) (d : Dates) (kept : AreKept r d) where
   deleted_in_row Delete (Some id) = in_row id (entry_under r id) refl
 
   -- where nothing was deleted, none is dropped
-  none_deleted : (operation : Operation) (found : Option EntryId) → without_deleted (deleted_in operation found r) r d ≡ d
-  none_deleted Add found = refl
-  none_deleted Modify found = refl
-  none_deleted Delete None = refl
-  none_deleted Delete (Some id) = by (entry_under r id) refl where
-    by : (o : Option Entry) → entry_under r id ≡ o → without_deleted (option_map (λ (x : Entry). (id, x)) o) r d ≡ d
-    by None at = refl
-    by (Some x) at = ap (λ (p : Option Entry). cond (is_some p || not (is_dated d x)) d (ended id x d)) at
+  none_deleted : (operation : Operation) (found : Option EntryId) → (operation ≡ Delete → IsSome found → ⊥) → without_deleted (deleted_in operation found r) d ≡ d
+  none_deleted Add found stays = refl
+  none_deleted Modify found stays = refl
+  none_deleted Delete None stays = refl
+  none_deleted Delete (Some id) stays = absurd (stays refl refl)
 
   pub drops_nothing : Drops r (λ k. false) d d
   drops_nothing = drops_none r (λ k. false) d kept (λ id x at h. absurd (false≢true h))
 
-  module _ (sound : IsSound r) (new : Registrations) (id : EntryId) (x : Entry) (at : entry_under r id ≡ Some x) (gone : entry_under new id ≡ None) where
-    drops_or_not : (b : Bool) → is_dated d x ≡ b → Drops r (λ k. k == id.0) d (cond (not b) d (ended id x d))
+  module _ (sound : IsSound r) (id : EntryId) (x : Entry) (at : entry_under r id ≡ Some x) where
+    drops_or_not : (b : Bool) → is_dated d x ≡ b → Drops r (λ k. k == id.0) d (cond b (ended id x d) d)
     drops_or_not true h = drops_one r sound d kept id x at
     drops_or_not false h = drops_none r (λ k. k == id.0) d kept (λ j y there e.
         let same : y ≡ x = ap (λ (o : Option Entry). unwrap_or o y) (sym there ∙ (ap (entry_under r) (id_is j id (from_test j.0 id.0 e)) ∙ at)) in
-        undated (event_at d.since y.number) (ap (λ (z : Entry). is_dated d z) same ∙ h)) where
-          undated : (m : ℕ) → nat_lt 0 m ≡ false → m ≡ 0
-          undated m f = grind (arith, nat_tests, f)
+        undated (event_at d.since y.number) (ap (λ (z : Entry). is_dated d z) same ∙ h))
 
-    drops_deleted : Drops r (λ k. k == id.0) d (without_deleted (deleted_in Delete (Some id) r) new d)
+    drops_deleted : Drops r (λ k. k == id.0) d (without_deleted (deleted_in Delete (Some id) r) d)
     drops_deleted =
         let there : deleted_in Delete (Some id) r ≡ Some (id, x) = ap (option_map (λ (y : Entry). (id, y))) at in
-        let is : without_deleted (deleted_in Delete (Some id) r) new d ≡ cond (not (is_dated d x)) d (ended id x d) =
-        ap (λ (o : Option (EntryId × Entry)). without_deleted o new d) there ∙ ap (λ (o : Option Entry). cond (is_some o || not (is_dated d x)) d (ended id x d)) gone in
+        let is : without_deleted (deleted_in Delete (Some id) r) d ≡ cond (is_dated d x) (ended id x d) d = ap (λ (o : Option (EntryId × Entry)). without_deleted o d) there in
         subst (Drops r (λ k. k == id.0) d) (sym is) (drops_or_not (is_dated d x) refl)
 
 -- What follows once registrations are edited.
-module _ (n : ℕ) (event_pid : Pid) (args : Control) (old new : Parts) (d e : Dating) (exact : IsExact n old d) (grows : Grows d e) where
+module _ (n : ℕ) (event_pid : Pid) (args : Control) (answer : Answer) (old new : Parts) (d e : Dating) (exact : IsExact n old d) (grows : Grows d e) where
   fits : Fits old.interest e
   fits = fits_grown old.interest d e grows exact.fits
 
@@ -295,7 +274,7 @@ module _ (n : ℕ) (event_pid : Pid) (args : Control) (old new : Parts) (d e : D
         | inr new ↦ inr (added id x new).1
       ]))
 
-      edited_follow : Follows n (CallOf event_pid (control_call args)) [] old d new (record e { dates = f; choice = record e.choice { lost = lost } })
+      edited_follow : Follows n (CallOf event_pid (control_call args)) answer [] old d new (record e { dates = f; choice = record e.choice { lost = lost } })
       edited_follow = record {
         loses = loses;
         fits = fits_from old.interest new.interest e (record e { dates = f; choice = record e.choice { lost = lost } }) fits loses.kept
@@ -306,7 +285,7 @@ module _ (n : ℕ) (event_pid : Pid) (args : Control) (old new : Parts) (d e : D
               | inr new ↦ inr (added id x new).2
             ]);
         told = told;
-        altered = named;
+        altered = λ done. named;
         lost = notes;
       }
 
@@ -318,7 +297,7 @@ module _ (n : ℕ) (event_pid : Pid) (args : Control) (old new : Parts) (d e : D
       let key : EntryId = record { 0 = old.interest.next } in
       let undated : event_at e.dates.since y.number ≡ 0 = same_event d.dates e.dates grows.dates y.number ∙ exact.later y.number (omega arith) in
       let free : (i : ℕ) → is_among (keys_at e.dates.rows i) key.0 ≡ false = λ i. elim (cases_Bool (is_among (keys_at e.dates.rows i) key.0)) [
-        | inl t ↦ let found = fits.kept.only i key.0 t in absurd (none_some found.0 (sym (ap (entry_found old.interest.entries) is) ∙ found.1))
+        | inl t ↦ let found = fits.kept.only i key.0 t in absurd (none-some found.0 (sym (ap (entry_found old.interest.entries) is) ∙ found.1))
         | inr f ↦ f
       ] in
       let P : EntryId → Entry → Type 0 = λ j z. IsAdded e.dates j z × (old.interest.added < z.number) × IsRoomy e j z in
@@ -333,6 +312,7 @@ module _ (n : ℕ) (event_pid : Pid) (args : Control) (old new : Parts) (d e : D
 module _ (n : ℕ) (counted : 0 < n) (pid : Pid) (args : Control) (plan : Plan) (outcome : Outcome) (old new : Parts) (d e : Dating) (exact : IsExact n old d) (grows : Grows d e)
     (sound : Sound old.tables) (was : IsSound old.interest) (is : IsSound new.interest) (plans : IsPlan old pid.0 args plan) (controls : Controls plan args outcome old new)
     (others : plan.operation ≢ Add → new.interest.added ≡ old.interest.added) (without : plan.operation ≡ Add → plan.has_room ≡ false → new ≡ old)
+    (deletes : plan.operation ≡ Delete → IsSome plan.found → outcome.answer ≡ Answered)
     (room : plan.operation ≡ Add → plan.found ≡ None → plan.has_room ≡ true → HasRoomFor e (old.interest.added + 1) plan.named args.mask old.interest.next)
     (altered : e.altered ≡ Some (key_of old.interest plan.found)) (lost : Walk) (noted_lost : lost ≡ with_home (deleted_by plan old) e.choice.lost)
   where
@@ -344,7 +324,7 @@ module _ (n : ℕ) (counted : 0 < n) (pid : Pid) (args : Control) (plan : Plan) 
 
     -- with these dates, and what was lost
     abbrev Done : Dates → Type 0
-    Done f = Follows n (CallOf pid (control_call args)) [] old d new (record e { dates = f; choice = record e.choice { lost = lost } })
+    Done f = Follows n (CallOf pid (control_call args)) outcome.answer [] old d new (record e { dates = f; choice = record e.choice { lost = lost } })
 
     -- there is room for what is lost
     lost_room : lost.room ≡ e.choice.lost.room
@@ -378,32 +358,31 @@ module _ (n : ℕ) (counted : 0 < n) (pid : Pid) (args : Control) (plan : Plan) 
 
     edited : (gone : ℕ → Bool) → Edits old.interest new.interest gone (λ id x. ⊥) → (f : Dates) → Drops old.interest gone e.dates f → TellsReports n [] new.interest → Done f
     edited gone edits f drops told =
-        edited_follow n pid args old new d e exact grows gone (λ id x. ⊥) edits f drops (λ id x none. absurd none) (noted gone (λ id x. ⊥) edits (λ id x none. absurd none)) told lost lost_room lost_roomy notes
+        edited_follow n pid args outcome.answer old new d e exact grows gone (λ id x. ⊥) edits f drops (λ id x none. absurd none) (noted gone (λ id x. ⊥) edits (λ id x none. absurd none)) told lost lost_room lost_roomy notes
 
-    refused : (operation : Operation) (found : Option EntryId) → new.interest ≡ old.interest → Done (without_deleted (deleted_in operation found old.interest) new.interest e.dates)
-    refused operation found same =
-        let stays : without_deleted (deleted_in operation found old.interest) new.interest e.dates ≡ e.dates =
-        ap (λ (r : Registrations). without_deleted (deleted_in operation found old.interest) r e.dates) same ∙ none_deleted old.interest e.dates kept operation found in
+    refused : (operation : Operation) (found : Option EntryId) → (operation ≡ Delete → IsSome found → ⊥) → new.interest ≡ old.interest → Done (without_deleted (deleted_in operation found old.interest) e.dates)
+    refused operation found undeleted same =
+        let stays : without_deleted (deleted_in operation found old.interest) e.dates ≡ e.dates = none_deleted old.interest e.dates kept operation found undeleted in
         let told = tells_none n new.interest (subst (λ (r : Registrations). All (Past n) r.entries) (sym same) exact.past) in
-        edited (λ k. false) (edits_none old.interest new.interest same) (without_deleted (deleted_in operation found old.interest) new.interest e.dates)
+        edited (λ k. false) (edits_none old.interest new.interest same) (without_deleted (deleted_in operation found old.interest) e.dates)
         (subst (Drops old.interest (λ k. false) e.dates) (sym stays) (drops_nothing old.interest e.dates kept)) told
 
     it : (key : EntryId) → plan.found ≡ Some key → (x : Entry) × (entry_under old.interest key ≡ Some x) × (x.number ≡ unwrap_or (number_under old.interest key) 0)
     it key found =
         let here = found_as old.interest plan.named args.fd plan.found (Some key) found_by found in
-        let m = some_of (number_under old.interest key) here.key in
+        let m = value_of (number_under old.interest key) here.key in
         let x = some_entry old.interest was key m.0 m.1 in
         (x.0, x.1, x.2 ∙ sym (ap (λ (o : Option ℕ). unwrap_or o 0) m.1))
 
     done : (operation : Operation) → plan.operation ≡ operation → (found : Option EntryId) → plan.found ≡ found → Changes operation found plan.named args old.interest new.interest
-        → Done (without_deleted (deleted_in operation found old.interest) new.interest e.dates)
+        → Done (without_deleted (deleted_in operation found old.interest) e.dates)
     done Add is_add None none changes = elim (cases_Bool plan.has_room) [
-      | inr f ↦ refused Add None (ap (λ (p : Parts). p.interest) (without is_add f))
+      | inr f ↦ refused Add None (λ del some. false≢true some) (ap (λ (p : Parts). p.interest) (without is_add f))
       | inl t ↦
           let edits = edits_added old.interest new.interest was is plan.named args changes in
           let told = tells_none n new.interest (past_changed n counted Add None plan.named args old.interest new.interest changes exact.past) in
-          edited_follow n pid args old new d e exact grows (λ k. false) (IsNext old.interest plan.named args) edits e.dates (drops_nothing old.interest e.dates kept)
-          (next_added n pid args old new d e exact grows was plan.named changes.1.was (room is_add none t))
+          edited_follow n pid args outcome.answer old new d e exact grows (λ k. false) (IsNext old.interest plan.named args) edits e.dates (drops_nothing old.interest e.dates kept)
+          (next_added n pid args outcome.answer old new d e exact grows was plan.named changes.1.was (room is_add none t))
           (noted (λ k. false) (IsNext old.interest plan.named args) edits (λ id x next. ap (key_of old.interest) none ∙ id_is (record { 0 = old.interest.next }) id (sym next.0))) told
           lost lost_room lost_roomy notes
     ]
@@ -411,8 +390,7 @@ module _ (n : ℕ) (counted : 0 < n) (pid : Pid) (args : Control) (plan : Plan) 
         let x = it key found in
         let edits = edits_deleted old.interest new.interest was is plan.named args key x.0 x.1 (others (λ add. differ (sym is_del ∙ add))) changes in
         let told = tells_none n new.interest (past_changed n counted Delete (Some key) plan.named args old.interest new.interest changes exact.past) in
-        let gone = ap (entry_found new.interest.entries) (clears_deleted old.interest new.interest was key x.0 x.1 changes.0 changes.1).gone in
-        edited (λ k. k == key.0) edits (without_deleted (deleted_in Delete (Some key) old.interest) new.interest e.dates) (drops_deleted old.interest e.dates kept was new.interest key x.0 x.1 gone) told
+        edited (λ k. k == key.0) edits (without_deleted (deleted_in Delete (Some key) old.interest) e.dates) (drops_deleted old.interest e.dates kept was key x.0 x.1) told
       where
         differ : Delete ≡ Add → ⊥
         differ h = cc
@@ -430,18 +408,18 @@ module _ (n : ℕ) (counted : 0 < n) (pid : Pid) (args : Control) (plan : Plan) 
     done Delete is_del None found changes = absurd changes
     done Modify is_mod None found changes = absurd changes
 
-    either : (b : Bool) → MatchBool b (Changes plan.operation plan.found plan.named args old.interest new.interest) (new.interest ≡ old.interest) → Done (without_deleted (deleted_in plan.operation plan.found old.interest) new.interest e.dates)
-    either true changes = done plan.operation refl plan.found refl changes
-    either false same = refused plan.operation plan.found same
+    either : (b : Bool) → is_done outcome.answer ≡ b → MatchBool b (Changes plan.operation plan.found plan.named args old.interest new.interest) (new.interest ≡ old.interest) → Done (without_deleted (deleted_in plan.operation plan.found old.interest) e.dates)
+    either true is changes = done plan.operation refl plan.found refl changes
+    either false is same = refused plan.operation plan.found (λ del some. false≢true (sym is ∙ ap is_done (deletes del some))) same
 
-    pub control_follow : Follows n (CallOf pid (control_call args)) outcome.picked old d new
-        (record e { dates = without_deleted (deleted_in plan.operation plan.found old.interest) new.interest e.dates; choice = record e.choice { lost = lost } })
+    pub control_follow : Follows n (CallOf pid (control_call args)) outcome.answer outcome.picked old d new
+        (record e { dates = without_deleted (deleted_in plan.operation plan.found old.interest) e.dates; choice = record e.choice { lost = lost } })
     control_follow =
         subst
-        (λ (ks : List ℕ). Follows n (CallOf pid (control_call args)) ks old d new
-        (record e { dates = without_deleted (deleted_in plan.operation plan.found old.interest) new.interest e.dates; choice = record e.choice { lost = lost } }))
+        (λ (ks : List ℕ). Follows n (CallOf pid (control_call args)) outcome.answer ks old d new
+        (record e { dates = without_deleted (deleted_in plan.operation plan.found old.interest) e.dates; choice = record e.choice { lost = lost } }))
         (sym controls.picked)
-        (either (is_done outcome.answer) controls.interest)
+        (either (is_done outcome.answer) refl controls.interest)
 
 -- whatever was noted as altered before
 pub grows_altered : (d e : Dating) (a : Option EntryId) → Grows (record d { altered = a }) e → Grows d e
@@ -457,14 +435,3 @@ pub grows_adding : (plan : Plan) (p : Parts) (d e : Dating) (lost : Walk) → (p
 grows_adding plan p d e lost add g noted =
     let none : lost ≡ e.choice.lost = noted ∙ ap (λ (o : Operation). with_home (deleted_home o plan.found p) e.choice.lost) (adds plan.operation add) in
     subst (λ (w : Walk). Grows d (record e { choice = record e.choice { lost = w } })) (sym none) g
-
--- What names nothing.
-none_lives : (o p : Option ℕ) → IsSome o → o ≡ p → p ≡ None → ⊥
-none_lives o p lives same none = false≢true (ap (λ (q : Option ℕ). is_some q) (sym (same ∙ none)) ∙ lives)
-
-module _ (v : Seen) (r : Registrations) (linked : AreLinked v r) (id : EntryId) (x : Entry) (at : entry_under r id ≡ Some x) where
-  pub none_of : (files : Option ℕ) → desc_number v x.instance ≡ files → files ≡ None → ⊥
-  none_of files same none = none_lives (desc_number v x.instance) files (holds_under (IsLinked v.keys) r id x linked at).instance same none
-
-  pub none_on : (files : Option ℕ) → desc_number v x.desc ≡ files → files ≡ None → ⊥
-  none_on files same none = none_lives (desc_number v x.desc) files (holds_under (IsLinked v.keys) r id x linked at).desc same none

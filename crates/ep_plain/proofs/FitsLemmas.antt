@@ -1,6 +1,7 @@
 -- What is kept of registrations fits those that a change leaves, and says which are lost.
 use Rattle.std.proofs.Common.{◌≡◌, ◌<◌, ◌∙◌, ◌⊎◌, true, None, Option, Some, ap, arith, inl, inr, map, refl, subst, sym}
 use Rattle.std.specs.Option.{option_map}
+use Rattle.ep_facts.proofs.OptionFacts.{some_same}
 use Rattle.ep_base.specs.declared.ids.DescId.{DescId}
 use Rattle.ep_base.specs.declared.ids.EntryId.{EntryId}
 use Rattle.ep_base.specs.declared.mask.Mask.{Mask}
@@ -75,9 +76,6 @@ fits_from old new d e fits kept same lost from = record {
   lost = lost;
 }
 
-some_entry : (x y : Entry) → Some x ≡ Some y → x ≡ y
-some_entry x y e = cc
-
 -- each is changed, and keeps these
 pub remained_mapped : (f : Entry → Entry) → ((x : Entry) → (f x).number ≡ x.number) → ((x : Entry) → (f x).instance ≡ x.instance) → ((x : Entry) → (f x).desc ≡ x.desc) → ((x : Entry) → (f x).mask ≡ x.mask) → (old new : Registrations) → new.entries ≡ map f old.entries → new.keys ≡ old.keys
     → (id : EntryId) (x : Entry) → entry_under new id ≡ Some x → Remained old id x
@@ -85,7 +83,7 @@ remained_mapped f number instance desc mask old new entries keys id x at = of (e
   of : (o : Option Entry) → entry_under old id ≡ o → option_map f o ≡ Some x → Remained old id x
   of None is h = absurd (let e : None ≡ Some x = h in cc)
   of (Some w) is h =
-      let same = some_entry (f w) x h in
+      let same = some_same (f w) x h in
       record {
         was = w;
         there = is;

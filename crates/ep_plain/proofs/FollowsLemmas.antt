@@ -1,27 +1,28 @@
 -- What an event does to the dates that reports, or that changes no registration.
-use Rattle.std.proofs.Common.{◌≡◌, ◌<◌, ◌∙◌, ◌==◌, ◌&&◌, ℕ, All, Bool, true, false, List, [], ◌∷◌, Option, ap, arith, cond, inl, inr, map, not, refl, subst, sym}
-use Rattle.std.proofs.lemmas.Bool.{cases_Bool}
+use Rattle.std.proofs.Common.{◌≡◌, ◌<◌, ◌∙◌, ◌==◌, ◌&&◌, ℕ, All, Bool, true, false, List, [], ◌∷◌, ap, arith, cond, inl, inr, map, not, refl, subst, sym}
+use Rattle.std.proofs.lemmas.Bool.{cases_Bool, false≢true}
 use Rattle.std.proofs.lemmas.Bool.Decides.{nat_tests}
 use Rattle.std.proofs.lemmas.List.Elements.{All-map, All-weaker}
+use Rattle.ep_facts.proofs.NatFacts.{same_nat}
+use Rattle.ep_base.specs.declared.answer.Answer.{Answer}
 use Rattle.ep_base.specs.declared.call.Call.{Call}
 use Rattle.ep_base.specs.declared.call.Call.TheVariants.{EpollCtl}
 use Rattle.ep_base.specs.declared.call.Event.{Event}
 use Rattle.ep_base.specs.declared.call.Event.TheVariants.{Call as CallOf}
-use Rattle.ep_base.specs.declared.ids.EntryId.{EntryId}
 use Rattle.ep_base.specs.declared.ids.Pid.{Pid}
 use Rattle.ep_calls.specs.FileCall.{IsFileCall}
+use Rattle.ep_calls.specs.Control.{is_done}
 use Rattle.ep_calls.specs.Parts.{Parts}
 use Rattle.ep_calls.specs.Wait.{with_report}
 use Rattle.ep_choice.proofs.NotesLostLemmas.{notes_mapped}
 use Rattle.ep_dates.specs.Dates.{Dates}
 use Rattle.ep_interest.specs.Registrations.{Registrations}
 use Rattle.ep_interest.specs.declared.entry.Entry.{Entry}
-use Rattle.ep_law.proofs.TestLemmas.{same_nat}
 use Rattle.ep_machine.specs.Bits.{ONESHOT, has_bit}
 use Rattle.ep_machine.specs.Lists.{is_among}
 use Rattle.ep_plain.proofs.FitsLemmas.{fits_from, remained_mapped}
 use Rattle.ep_plain.proofs.LosesLemmas.{Stay, loses_none, stay_mapped}
-use Rattle.ep_plain.specs.Exact.{Follows, IsAlteredKey, IsExact, IsNamed, TellsReports}
+use Rattle.ep_plain.specs.Exact.{Follows, IsExact, IsNamed, TellsReports}
 use Rattle.ep_plain.specs.Loses.{Loses}
 use Rattle.ep_plain.specs.declared.dating.Dating.{Dating}
 
@@ -94,7 +95,7 @@ loses_aside old new many d l = record {
 }
 
 -- Of an event that reports these.
-module _ (n : ℕ) (event : Event) (picked : List ℕ) (old new : Parts) (d : Dating) (exact : IsExact n old d) (keys : new.interest.keys ≡ old.interest.keys)
+module _ (n : ℕ) (event : Event) (answer : Answer) (picked : List ℕ) (old new : Parts) (d : Dating) (exact : IsExact n old d) (keys : new.interest.keys ≡ old.interest.keys)
     (entries : new.interest.entries ≡ map (with_report n picked) old.interest.entries)
   where
     abbrev aside : Registrations
@@ -106,31 +107,27 @@ module _ (n : ℕ) (event : Event) (picked : List ℕ) (old new : Parts) (d : Da
     loses : Loses old.interest new.interest d.dates d.dates
     loses = loses_aside old.interest new.interest old.interest.added d.dates (loses_none old.interest aside stay d.dates exact.fits.kept)
 
-    -- whatever is noted as altered
-    pub altered_follow : (a : Option EntryId) → IsAlteredKey old.tables event new.interest a → Follows n event picked old d new (record d { altered = a })
-    altered_follow a altered = record {
+    -- and alters none, or is refused
+    pub reports_follow : (is_done answer ≡ true → (x : Entry) → IsNamed old.tables event x → ⊥) → Follows n event answer picked old d new d
+    reports_follow unnamed = record {
       loses = loses;
-      fits = fits_from old.interest new.interest d (record d { altered = a }) exact.fits loses.kept (record { reached = refl; gone = refl; flags = refl; lost = refl; targets = refl; candidates = refl }) exact.fits.lost
+      fits = fits_from old.interest new.interest d d exact.fits loses.kept (record { reached = refl; gone = refl; flags = refl; lost = refl; targets = refl; candidates = refl }) exact.fits.lost
           (λ id x at. inl (remained_mapped (with_report n picked) (number_told n picked) (instance_told n picked) (desc_told n picked) (mask_told n picked) old.interest new.interest entries keys id x at));
       told = tells_picked n picked old.interest new.interest entries exact.past;
-      altered = altered;
+      altered = λ done id x at named. absurd (unnamed done x named);
       lost = notes_mapped (with_report n picked) (number_told n picked) old new entries d.choice.lost.reached;
     }
 
-    pub reports_follow : ((x : Entry) → IsNamed old.tables event x → ⊥) → Follows n event picked old d new d
-    reports_follow unnamed = altered_follow d.altered (λ id x at named. absurd (unnamed x named))
-
 -- Of one that changes none, and reports nothing.
-module _ (n : ℕ) (event : Event) (picked : List ℕ) (old new : Parts) (d : Dating) (exact : IsExact n old d) (same : new.interest ≡ old.interest) (none : picked ≡ []) where
+module _ (n : ℕ) (event : Event) (answer : Answer) (picked : List ℕ) (old new : Parts) (d : Dating) (exact : IsExact n old d) (same : new.interest ≡ old.interest) (none : picked ≡ []) where
   entries_same : new.interest.entries ≡ map (with_report n picked) old.interest.entries
   entries_same = ap (λ (r : Registrations). r.entries) same ∙ (sym (none_told n old.interest.entries) ∙ ap (λ (ks : List ℕ). map (with_report n ks) old.interest.entries) (sym none))
 
-  pub refused_follow : (a : Option EntryId) → IsAlteredKey old.tables event old.interest a → Follows n event picked old d new (record d { altered = a })
-  refused_follow a altered =
-      altered_follow n event picked old new d exact (ap (λ (r : Registrations). r.keys) same) entries_same a (subst (λ (r : Registrations). IsAlteredKey old.tables event r a) (sym same) altered)
+  pub same_follow : (is_done answer ≡ true → (x : Entry) → IsNamed old.tables event x → ⊥) → Follows n event answer picked old d new d
+  same_follow unnamed = reports_follow n event answer picked old new d exact (ap (λ (r : Registrations). r.keys) same) entries_same unnamed
 
-  pub same_follow : ((x : Entry) → IsNamed old.tables event x → ⊥) → Follows n event picked old d new d
-  same_follow unnamed = reports_follow n event picked old new d exact (ap (λ (r : Registrations). r.keys) same) entries_same unnamed
+  pub refused_follow : is_done answer ≡ false → Follows n event answer picked old d new d
+  refused_follow refused = same_follow (λ done. absurd (false≢true (sym refused ∙ done)))
 
 -- What is no epoll_ctl names no registration.
 pub files_unnamed : (p : Parts) (pid : Pid) (call : Call) → IsFileCall call → (x : Entry) → IsNamed p.tables (CallOf pid call) x → ⊥

@@ -1,7 +1,9 @@
 -- A registration that has a date, and that an event doesn't touch, still shows something by the rows of the dates.
 use Rattle.std.proofs.Common.{◌≡◌, ◌∙◌, ◌+◌, ◌&&◌, ◌||◌, ◌++◌, ℕ, Bool, true, false, IsSome, List, [], ◌∷◌, MatchOption, None, Option, Some, ap, inl, inr, is_some, length, map, nat_lt, not, refl, subst, sym, unwrap_or}
 use Rattle.std.specs.Option.{option_map}
-use Rattle.std.proofs.lemmas.Bool.{cases_Bool, false≢true}
+use Rattle.std.proofs.lemmas.Bool.{cases_Bool, false≢true, or_parts}
+use Rattle.ep_facts.proofs.NatFacts.{same_nat, same_test}
+use Rattle.ep_facts.proofs.BoolFacts.{first_of_and}
 use Rattle.ep_alarms.specs.Called.{IsCalled}
 use Rattle.ep_base.specs.Limits.{Limits}
 use Rattle.ep_base.specs.declared.answer.Answer.{Answer}
@@ -29,9 +31,8 @@ use Rattle.ep_dates.specs.Touched.{has_number, is_it, is_numbered, is_on_any, ma
 use Rattle.ep_interest.specs.Registrations.{entry_under, settled}
 use Rattle.ep_interest.specs.declared.entry.Entry.{Entry}
 use Rattle.ep_law.proofs.GraphLemmas.{member_of_map}
-use Rattle.ep_law.proofs.ListLemmas.{all_member, first_of_and, member_map}
+use Rattle.ep_law.proofs.ListLemmas.{all_member, member_map}
 use Rattle.ep_law.proofs.StepLemmas.{refused_step, step_changed}
-use Rattle.ep_law.proofs.TestLemmas.{neither, same_nat, same_test}
 use Rattle.ep_law.specs.Laws.{IsNoted, Member}
 use Rattle.ep_machine.specs.Bits.{ET, IN, asked, has_bit, when}
 use Rattle.ep_machine.specs.Effect.{first}
@@ -50,7 +51,7 @@ use Rattle.ep_order.proofs.StepLemmas.{stood}
 use Rattle.ep_order.specs.Ending.{UntouchedStayReportable, is_called}
 use Rattle.ep_order.specs.Event.{IsAltered, end_of}
 use Rattle.ep_plain.proofs.ComeLemmas.{date_left, keys_left, linked_left}
-use Rattle.ep_plain.proofs.NamedLemmas.{had_key, is_found, is_named}
+use Rattle.ep_plain.proofs.NamedLemmas.{done_made, had_key, is_found, is_named}
 use Rattle.ep_plain.proofs.ReportedLemmas.{was_then}
 use Rattle.ep_plain.specs.Dating.{touched_in}
 use Rattle.ep_plain.specs.Exact.{Follows, TellsReady}
@@ -82,7 +83,7 @@ to_state o a b u v h k = ap (λ (q : Option (Answer × State)). unwrap_or (optio
 -- One event.
 module _ (law : UntouchedStayReportable) (past : List Record) (old mid left : Parts) (keeps : Keeps past old) (caller : CallerId) (event : Event) (outcome : Outcome) (n : ℕ) (at : n ≡ length past + 1)
     (does : DoesAt (next_event keeps.state) caller.0 event outcome old mid) (keys : KeepsKeys old.tables mid.tables) (coherent : AreCoherent old) (sound : SoundTables old.tables) (d e f : Dating) (dated : IsDated keeps.state d.dates.since) (ready : TellsReady old d.dates)
-    (follows : Follows n event outcome.picked old d mid e) (spread : SpreadsTo n outcome.raising mid e left f) (called : Option DescId) (is_call : IsCalled old.tables event called) where
+    (follows : Follows n event outcome.answer outcome.picked old d mid e) (spread : SpreadsTo n outcome.raising mid e left f) (called : Option DescId) (is_call : IsCalled old.tables event called) where
   abbrev s : State
   s = keeps.state
 
@@ -131,13 +132,13 @@ module _ (law : UntouchedStayReportable) (past : List Record) (old mid left : Pa
 
     -- what the event touches, in turn
     parts : ((is_it f.altered id.0 || has_number left.interest outcome.picked id.0 || watches_maybe left.interest called id.0) ≡ false) × (watches_any left.interest f.gone.reached id.0 ≡ false)
-    parts = neither (is_it f.altered id.0 || has_number left.interest outcome.picked id.0 || watches_maybe left.interest called id.0) (watches_any left.interest f.gone.reached id.0) untouched
+    parts = or_parts (is_it f.altered id.0 || has_number left.interest outcome.picked id.0 || watches_maybe left.interest called id.0) (watches_any left.interest f.gone.reached id.0) untouched
 
     three : ((is_it f.altered id.0 || has_number left.interest outcome.picked id.0) ≡ false) × (watches_maybe left.interest called id.0 ≡ false)
-    three = neither (is_it f.altered id.0 || has_number left.interest outcome.picked id.0) (watches_maybe left.interest called id.0) parts.0
+    three = or_parts (is_it f.altered id.0 || has_number left.interest outcome.picked id.0) (watches_maybe left.interest called id.0) parts.0
 
     two : (is_it f.altered id.0 ≡ false) × (has_number left.interest outcome.picked id.0 ≡ false)
-    two = neither (is_it f.altered id.0) (has_number left.interest outcome.picked id.0) three.0
+    two = or_parts (is_it f.altered id.0) (has_number left.interest outcome.picked id.0) three.0
 
     unpicked : is_among outcome.picked x.number ≡ false
     unpicked = ap (is_numbered outcome.picked) (sym up) ∙ two.1
@@ -244,7 +245,7 @@ module _ (law : UntouchedStayReportable) (past : List Record) (old mid left : Pa
               let named =
               is_named old.tables mid.tables keys sound spread.spreads.leaves.tables limits b caller.0 q keeps.stands.files same event allowed w u.was link_then
               (u.instance ∙ sym w_instance) (u.fd ∙ sym w_fd) (u.target ∙ sym w_target) altered in
-              let by_key : f.altered ≡ Some id = spread.altered ∙ follows.altered id u.was u.under named in
+              let by_key : f.altered ≡ Some id = spread.altered ∙ follows.altered (done_made limits b q caller.0 event outcome.picked outcome.answer mid m w altered) id u.was u.under named in
               false≢true (sym two.0 ∙ (ap (λ (o : Option EntryId). is_it o id.0) by_key ∙ same_nat id.0))
 
           uncalled : is_called s event w.target ≡ false

@@ -1,7 +1,9 @@
 -- Registrations change, and those that go lose their dates.
-use Rattle.std.proofs.Common.{◌≡◌, ◌<◌, ◌≤◌, ◌==◌, ◌∙◌, ◌⊎◌, ◌∷◌, ℕ, Bool, true, false, List, [], None, Option, Some, ap, arith, inl, inr, map, refl, subst, sym}
+use Rattle.std.proofs.Common.{◌≡◌, ◌<◌, ◌≤◌, ◌∙◌, ◌⊎◌, ℕ, Bool, true, false, None, Option, Some, ap, arith, inl, inr, map, refl, subst, sym}
 use Rattle.std.specs.Option.{option_map}
 use Rattle.std.proofs.lemmas.Bool.{false≢true}
+use Rattle.ep_facts.proofs.OptionFacts.{some_same}
+use Rattle.ep_facts.proofs.AmongFacts.{map_same}
 use Rattle.ep_base.specs.declared.ids.EntryId.{EntryId}
 use Rattle.ep_calls.proofs.MappedLemmas.{under_mapped}
 use Rattle.ep_dates.proofs.DropLemmas.{drops_none}
@@ -13,16 +15,10 @@ use Rattle.ep_dates.specs.Moves.{Moves, WasThere}
 use Rattle.ep_dates.specs.Order.{AreInTurn, Rise, date_found, date_under}
 use Rattle.ep_interest.specs.Registrations.{Registrations, entry_under}
 use Rattle.ep_interest.specs.declared.entry.Entry.{Entry}
-use Rattle.ep_law.proofs.TestLemmas.{or_left, or_right, same_test}
 use Rattle.ep_machine.specs.Lists.{is_among}
 use Rattle.ep_plain.specs.Loses.{Loses}
-use Rattle.ep_rings.specs.KeyWalk.{id_at as key_of}
+use Rattle.ep_rings.specs.KeyWalk.{entry_id as key_of}
 use Rattle.ep_rings.specs.PlacedRows.{keys_at}
-
--- the same of each that is there
-map_same : (f g : ℕ → ℕ) (xs : List ℕ) → ((k : ℕ) → is_among xs k ≡ true → f k ≡ g k) → map f xs ≡ map g xs
-map_same f g [] h = refl
-map_same f g (x ∷ xs) h = (λ i. h x (or_left (x == x) (is_among xs x) (same_test x x refl)) i ∷ map_same f g xs (λ k t. h k (or_right (k == x) (is_among xs k) t)) i)
 
 -- Along a row dates don't sink as registrations change.
 module _ (old new : Registrations) (e : Dates) (kept : AreKept old e) (moves : Moves e old new) where
@@ -89,9 +85,6 @@ module _ (old new : Registrations) (stay : Stay old new) where
       loses_moves old new (λ k. false) d d (drops_none old (λ k. false) d kept (λ id x at h. absurd (false≢true h))) (record { each = λ id x at. inl (stay.each id x at); left = λ id x at dated. stay.left id x at }) (let e = stay.added in omega (arith, e))
       (λ id x at. let was = stay.each id x at in inl (was.was, was.there, was.number, refl))
 
-some_entry : (x y : Entry) → Some x ≡ Some y → x ≡ y
-some_entry x y e = cc
-
 -- so do they where each is changed, and keeps these
 pub stay_mapped : (f : Entry → Entry) → ((x : Entry) → (f x).number ≡ x.number) → ((x : Entry) → (f x).instance.0 ≡ x.instance.0) → (old new : Registrations) → new.entries ≡ map f old.entries → new.keys ≡ old.keys → new.added ≡ old.added → Stay old new
 stay_mapped f number instance old new entries keys added = record {
@@ -105,4 +98,4 @@ stay_mapped f number instance old new entries keys added = record {
   was_there : (id : EntryId) (x : Entry) (o : Option Entry) → entry_under old id ≡ o → option_map f o ≡ Some x → WasThere old id x
   was_there id x None is h = absurd (let e : None ≡ Some x = h in cc)
   was_there id x (Some w) is h =
-      let same = some_entry (f w) x h in record { was = w; there = is; number = sym (number w) ∙ ap (λ (y : Entry). y.number) same; instance = sym (instance w) ∙ ap (λ (y : Entry). y.instance.0) same }
+      let same = some_same (f w) x h in record { was = w; there = is; number = sym (number w) ∙ ap (λ (y : Entry). y.number) same; instance = sym (instance w) ∙ ap (λ (y : Entry). y.instance.0) same }

@@ -1,34 +1,39 @@
 -- What the descriptors of an event name, by the keys of registrations after its change.
-use Rattle.std.proofs.Common.{◌≡◌, ◌∙◌, ◌==◌, ◌&&◌, ℕ, ℤ, Bool, true, false, IsSome, MatchOption, None, Option, Some, ap, is_none, negsuc, pos, refl, slice_index_or, sym, unwrap_or}
+use Rattle.std.proofs.Common.{◌≡◌, ◌∙◌, ◌==◌, ◌&&◌, ◌∷◌, [], ℕ, ℤ, Bool, true, false, if◌then◌else◌, IsSome, List, MatchOption, None, Option, Some, ap, negsuc, pos, refl, slice_index_or, subst, sym, unwrap_or}
 use Rattle.std.proofs.lemmas.Bool.{false≢true}
 use Rattle.std.specs.List.{AllByRecursion}
+use Rattle.ep_facts.proofs.NatFacts.{from_test}
+use Rattle.ep_facts.proofs.BoolFacts.{both_true}
+use Rattle.ep_facts.proofs.OptionFacts.{number_unless_none}
 use Rattle.ep_base.specs.Limits.{Limits}
+use Rattle.ep_base.specs.declared.answer.Answer.{Answer}
 use Rattle.ep_base.specs.declared.call.Call.{Call}
 use Rattle.ep_base.specs.declared.call.Call.TheVariants.{EpollCtl, EpollWait}
 use Rattle.ep_base.specs.declared.call.Event.{Event}
 use Rattle.ep_base.specs.declared.call.Event.TheVariants.{Call as CallOf}
 use Rattle.ep_base.specs.declared.ids.DescId.{DescId}
+use Rattle.ep_base.specs.declared.errno.Errno.{Errno}
 use Rattle.ep_base.specs.declared.ids.Fd.{Fd}
 use Rattle.ep_calls.proofs.KeyLemmas.{under_key}
+use Rattle.ep_calls.specs.Control.{is_done}
+use Rattle.ep_calls.specs.Moves.{Goes, Makes, Refuses}
+use Rattle.ep_calls.specs.Parts.{Parts}
 use Rattle.ep_calls.specs.Stands.{IsLinked, KeepsKeys, number_at}
 use Rattle.ep_interest.specs.declared.entry.Entry.{Entry}
-use Rattle.ep_law.proofs.TestLemmas.{both_true, from_test}
-use Rattle.ep_machine.specs.Effect.{first}
 use Rattle.ep_machine.specs.Files.{Files, named_by, names_nothing, under}
 use Rattle.ep_machine.specs.Objects.{ObjectCall, object_call}
 use Rattle.ep_machine.specs.Refusal.{refusals, refusals_on}
-use Rattle.ep_machine.specs.State.{State, Watch}
-use Rattle.ep_machine.specs.Watches.{number_in}
+use Rattle.ep_machine.specs.State.{Change, State, Watch}
+use Rattle.ep_machine.specs.Step.{change}
+use Rattle.ep_machine.specs.Effect.{first}
+use Rattle.ep_machine.specs.Report.{plainly}
+use Rattle.ep_machine.specs.Watches.{add, ctl, delete, is_add, is_del, modify, number_in}
 use Rattle.ep_order.specs.Ending.{is_called, is_object_of}
 use Rattle.ep_order.specs.Event.{IsAltered}
 use Rattle.ep_alarms.specs.Called.{IsCalled, asked_in}
 use Rattle.ep_plain.specs.Exact.{IsNamed}
 use Rattle.ep_table.specs.Value.{Seen, Sound as SoundTables, number_under as desc_number}
 use Rattle.ep_view.proofs.AtRestLemmas.{none_holds}
-
-some_named : (o : Option ℕ) → is_none o ≡ false → o ≡ Some (unwrap_or o 0)
-some_named None h = absurd (false≢true (sym h))
-some_named (Some d) h = refl
 
 -- a number that names something is not negative
 descriptor_of : (files : Files) (p : ℕ) (fd : ℤ) → names_nothing files p fd ≡ false → fd ≡ pos (number_in fd)
@@ -40,6 +45,31 @@ none_some o d a b = absurd (let e : Some d ≡ None = sym a ∙ b in cc)
 
 same_fd : (a b : Fd) → a.0 ≡ b.0 → a ≡ b
 same_fd a b e = ap (λ (k : ℤ). let fd : Fd = record { 0 = k } in fd) e
+
+-- an epoll_ctl that isn't refused is done
+ctl_done : (s : State) (p : ℕ) (epfd op fd : ℤ) (mask tag : ℕ) → is_done (ctl s p epfd op fd mask tag).0 ≡ true
+ctl_done s p epfd op fd mask tag =
+    let e = named_by s.files p epfd in
+    let k = number_in fd in
+    let d = named_by s.files p fd in
+    elim (is_add op) as (λ a. is_done (if a then add s e k d mask tag else if is_del op then delete s e k d else modify s e k d mask tag).0 ≡ true) [
+      | true ↦ refl
+      | false ↦ elim (is_del op) as (λ b. is_done (if b then delete s e k d else modify s e k d mask tag).0 ≡ true) [ true ↦ refl | false ↦ refl ]
+    ]
+
+plain_done : (picked : List ℕ) (c m : Change) → plainly picked c ≡ Some m → is_done c.0 ≡ true → is_done m.0 ≡ true
+plain_done [] c m is done = ap (λ (o : Option Change). is_done (unwrap_or o c).0) (sym is) ∙ done
+plain_done (k ∷ ks) c m is done = absurd (cc)
+
+-- so an event that alters a registration, and isn't refused, is done
+pub done_made : (limits : Limits) (b from : State) (caller : ℕ) (event : Event) (picked : List ℕ) (answer : Answer) (mid : Parts) → Makes (change limits b caller event picked) answer mid → (w : Watch) → IsAltered from event w → is_done answer ≡ true
+done_made limits b from caller (CallOf p (EpollCtl epfd op fd mask tag)) picked answer mid m w is =
+    ap is_done (sym m.answers) ∙ plain_done picked (ctl b p.0 epfd.0 op fd.0 mask.0 tag) m.made m.is (ctl_done b p.0 epfd.0 op fd.0 mask.0 tag)
+done_made limits b from caller event picked answer mid m w is = absurd is
+
+pub done_altered : (limits : Limits) (b from : State) (caller : ℕ) (event : Event) (picked : List ℕ) (answer : Answer) (mid : Parts) → Goes (refusals limits b caller event) (change limits b caller event picked) b answer picked mid → first (refusals limits b caller event) ≡ None → (w : Watch) → IsAltered from event w → is_done answer ≡ true
+done_altered limits b from caller event picked answer mid goes allowed =
+    done_made limits b from caller event picked answer mid (subst (λ (o : Option Errno). MatchOption o (Makes (change limits b caller event picked) answer mid) (λ e. Refuses b e answer picked mid)) allowed goes)
 
 -- A description that an event's change left.
 module _ (old mid : Seen) (keys : KeepsKeys old mid) (was : SoundTables old) (sound : SoundTables mid) where
@@ -53,7 +83,7 @@ module _ (old mid : Seen) (keys : KeepsKeys old mid) (was : SoundTables old) (so
   -- as the one that a descriptor named
   had_named : (a : DescId) (p : ℕ) (fd : ℤ) → names_nothing old.files p fd ≡ false → IsSome (desc_number mid a) → number_at mid.keys a ≡ named_by old.files p fd → desc_number old a ≡ under old.files p fd
   had_named a p fd some lives number =
-      let is = some_named (under old.files p fd) some in
+      let is = number_unless_none (under old.files p fd) some in
       let key = was.named p (named_by old.files p fd) fd is in
       had_key a key.0 (named_by old.files p fd) key.1 lives number ∙ sym is
 
@@ -81,7 +111,7 @@ module _ (old mid : Seen) (keys : KeepsKeys old mid) (was : SoundTables old) (so
       some_old = ap (λ (f : Files). names_nothing f p fd) (sym same) ∙ some
 
       is_some : under old.files p fd ≡ Some (named_by old.files p fd)
-      is_some = some_named (under old.files p fd) some_old
+      is_some = number_unless_none (under old.files p fd) some_old
 
       here : desc_number old a ≡ under old.files p fd
       here = had_named a p fd some_old lives (number ∙ (sym (from_test _ d on) ∙ ap (λ (f : Files). named_by f p fd) same_from))

@@ -1,5 +1,5 @@
 -- Room that grows leaves what holds of the dates.
-use Rattle.std.proofs.Common.{◌≡◌, ◌<◌, ◌≤◌, ◌∙◌, ℕ, List, None, Option, Some, ap, arith, is_some, length, map, nat_lt, refl, subst, sym}
+use Rattle.std.proofs.Common.{◌≡◌, ◌≤◌, ◌∙◌, ℕ, List, None, Option, Some, ap, arith, is_some, map, nat_lt, refl, subst, sym}
 use Rattle.ep_choice.proofs.SuitsLemmas.{room_for, suits_widened}
 use Rattle.ep_dates.specs.Dates.{Dates, Widens, event_at, is_ready}
 use Rattle.ep_dates.specs.Kept.{AreKept}
@@ -10,7 +10,7 @@ use Rattle.ep_machine.specs.Lists.{is_among}
 use Rattle.ep_plain.specs.Dating.{Fits, Grows}
 use Rattle.ep_plain.specs.Loses.{Loses}
 use Rattle.ep_plain.specs.declared.dating.Dating.{Dating}
-use Rattle.ep_rings.specs.KeyWalk.{id_at as key_of}
+use Rattle.ep_rings.specs.KeyWalk.{entry_id as key_of}
 use Rattle.ep_rings.specs.PlacedRows.{first_in}
 
 module _ (d e : Dates) (w : Widens d e) where

@@ -1,10 +1,10 @@
 -- What is kept of each registration is the event since which the machine has it as reportable.
-use Rattle.std.proofs.Common.{get_or, ◌≡◌, ◌<◌, ◌≤◌, ◌+◌, ◌==◌, ◌||◌, ◌++◌, ◌∙◌, ◌⊎◌, ℕ, suc, zero, All, Bool, true, false, List, [], ◌∷◌, Some, ap, arith, filter, if◌then◌else◌, inl, inr, nat_lt, refl, subst, sym}
+use Rattle.std.proofs.Common.{get_or, ◌≡◌, ◌<◌, ◌≤◌, ◌+◌, ◌==◌, ◌||◌, ◌∙◌, ◌⊎◌, ℕ, suc, zero, All, Bool, true, false, List, [], ◌∷◌, Some, ap, arith, filter, if◌then◌else◌, inl, inr, nat_lt, refl, subst, sym}
 use Rattle.std.proofs.lemmas.Bool.{cases_Bool, false≢true}
-use Rattle.std.proofs.lemmas.Bool.Decides.{nat_tests}
-use Rattle.std.proofs.lemmas.List.{length-append}
 use Rattle.std.proofs.lemmas.List.Elements.{All-from_recursion, All-map, All-nil}
 use Rattle.std.specs.List.{AllByRecursion}
+use Rattle.ep_facts.proofs.NatFacts.{above_none, is_positive as above, same_test, test_apart, zero_of}
+use Rattle.ep_facts.proofs.BoolFacts.{same_bools}
 use Rattle.ep_base.specs.Limits.{Limits}
 use Rattle.ep_base.specs.declared.answer.Answer.{Answer}
 use Rattle.ep_base.specs.declared.call.Event.{Event}
@@ -12,7 +12,6 @@ use Rattle.ep_interest.specs.Registrations.{Registrations}
 use Rattle.ep_law.specs.Laws.{Member}
 use Rattle.ep_law.specs.Sound.{Sound}
 use Rattle.ep_law.proofs.ListLemmas.{all_member, among, among_member, filtered_member, filtered_passes, mapped_member, member_filter, member_map, one_number}
-use Rattle.ep_law.proofs.TestLemmas.{from_test, same_test}
 use Rattle.ep_machine.specs.Lists.{is_among}
 use Rattle.ep_machine.specs.Readiness.{is_reportable}
 use Rattle.ep_machine.specs.Settle.{reportable_numbers}
@@ -32,14 +31,6 @@ use Rattle.ep_table.specs.Value.{Seen}
 pub all_by : {X : Type 0} (P : X → Type 0) (xs : List X) → ((x : X) → Member x xs → P x) → AllByRecursion P xs
 all_by P [] h = tt
 all_by P (x ∷ xs) h = (h x (inl refl), all_by P xs (λ y m. h y (inr m)))
-
-pub same_bools : (a b : Bool) → (a ≡ true → b ≡ true) → (b ≡ true → a ≡ true) → a ≡ b
-same_bools true b f g = sym (f refl)
-same_bools false true f g = g refl
-same_bools false false f g = refl
-
-apart_test : (a b : ℕ) → (a ≡ b → ⊥) → (a == b) ≡ false
-apart_test a b h = elim (cases_Bool (a == b)) [ inl t ↦ absurd (h (from_test a b t)) | inr f ↦ f ]
 
 -- nothing is kept at first
 pub opening_dated : (since : List ℕ) → since ≡ [] → IsDated opening since
@@ -67,18 +58,9 @@ up_where n true rep e lt = elim (cases_Bool (e == 0)) [
   | inl t ↦ ap (λ (b : Bool). nat_lt 0 (if b || rep == n then n else e)) t ∙ above n lt
   | inr f ↦ ap (λ (b : Bool). nat_lt 0 (if b || rep == n then n else e)) f ∙ elim (rep == n) as (λ b. nat_lt 0 (if b then n else e) ≡ true) [
     | true ↦ above n lt
-    | false ↦ above e (some e f)
+    | false ↦ above e (above_none e f)
   ]
-] where
-  above : (k : ℕ) → 0 < k → nat_lt 0 k ≡ true
-  above k h = grind (arith, nat_tests, h)
-
-  some : (k : ℕ) → (k == 0) ≡ false → 0 < k
-  some zero h = cc
-  some (suc k) h = omega arith
-
-pub none_where : (e : ℕ) → nat_lt 0 e ≡ false → e ≡ 0
-none_where e h = grind (arith, nat_tests, h)
+]
 
 pub comes : (n rep e : ℕ) → e ≡ 0 → date_of n true rep e ≡ n
 comes n rep e h = ap (λ (k : ℕ). date_of n true rep k) h
@@ -90,7 +72,7 @@ reported_now n rep e h = elim (cases_Bool (e == 0)) [
 ]
 
 stays : (n rep e : ℕ) → (e ≡ 0 → ⊥) → (rep ≡ n → ⊥) → date_of n true rep e ≡ e
-stays n rep e h k = λ i. if apart_test e 0 h i || apart_test rep n k i then n else e
+stays n rep e h k = λ i. if test_apart e 0 h i || test_apart rep n k i then n else e
 
 begun_reportable : (s : State) (x : Watch) → is_reportable (next_event s) x ≡ is_reportable s x
 begun_reportable s x = reportable_kept (next_event s) x ∙ sym (reportable_kept s x)
@@ -141,7 +123,7 @@ module _ (s : State) (since : List ℕ) (sound : Sound s) (dated : IsDated s sin
       let there : is_among (reportable_numbers b) y.number ≡ is_reportable s w = ap (is_among (reportable_numbers b)) same ∙ among_is s w sound m in
       elim (cases_Bool (is_reportable s w)) [
         | inr f ↦
-            comes n y.rep (event_at since y.number) (kept ∙ none_where (event_at since w.number) (up ∙ f))
+            comes n y.rep (event_at since y.number) (kept ∙ zero_of (event_at since w.number) (up ∙ f))
             ∙ sym (from ∙ ap (λ (c : Bool). if c then turn.x.from else n) (there ∙ f))
         | inl r ↦
             let on : y.from ≡ turn.x.from = from ∙ ap (λ (c : Bool). if c then turn.x.from else n) (there ∙ r) in

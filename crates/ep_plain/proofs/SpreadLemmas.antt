@@ -23,7 +23,7 @@ use Rattle.ep_plain.proofs.LosesLemmas.{Stay, loses_both, loses_none, stay_mappe
 use Rattle.ep_plain.specs.Dating.{Fits}
 use Rattle.ep_plain.specs.Loses.{Loses}
 use Rattle.ep_plain.specs.declared.dating.Dating.{Dating}
-use Rattle.ep_ready.specs.Walk.{Walk}
+use Rattle.ep_walk.specs.Walk.{Walk}
 use Rattle.ep_table.specs.Closing.{opposite}
 use Rattle.ep_table.specs.Live.{live_ids}
 use Rattle.ep_table.specs.Value.{Seen, number_of}

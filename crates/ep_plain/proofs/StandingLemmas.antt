@@ -26,8 +26,7 @@ use Rattle.ep_calls.specs.declared.outcome.Outcome.{Outcome}
 use Rattle.ep_choice.proofs.EndLemmas.{attend_of, settles_marks}
 use Rattle.ep_choice.specs.Marking.{gets_mark_key}
 use Rattle.ep_dates.specs.Dates.{Dates, event_at, is_ready}
-use Rattle.ep_dates.specs.Kept.{AreKept}
-use Rattle.ep_dates.specs.Order.{AreInTurn, Rise, date_found, date_under}
+use Rattle.ep_dates.specs.Order.{AreInTurn, Rise, date_under}
 use Rattle.ep_dates.specs.Touched.{date_of}
 use Rattle.ep_interest.specs.Registrations.{Registrations, entry_found, entry_under, settled}
 use Rattle.ep_interest.specs.declared.entry.Entry.{Entry}
@@ -54,7 +53,6 @@ use Rattle.ep_plain.specs.Standing.{Standing}
 use Rattle.ep_plain.specs.StepWith.{AddsBy, HasStep}
 use Rattle.ep_plain.specs.These.{ForEach, MayGo, MayReport, ReportsThese}
 use Rattle.ep_plain.specs.declared.dating.Dating.{Dating}
-use Rattle.ep_rings.specs.KeyWalk.{id_at as number_key}
 use Rattle.ep_rings.specs.PlacedRows.{PlacedRows, first_in, keys_at, no_rows}
 use Rattle.ep_table.specs.Value.{Seen}
 use Rattle.ep_view.proofs.AtRestLemmas.{quiet_begun}
@@ -156,7 +154,7 @@ standing_grown past p d e grows h = record {
 }
 
 module _ (past : List Record) (old mid left : Parts) (d e f h : Dating) (standing : Standing past old d) (caller : CallerId) (event : Event) (outcome : Outcome) (n : ℕ) (at : n ≡ length past + 1)
-    (does : DoesAt (next_event standing.keeps.state) caller.0 event outcome old mid) (follows : Follows n event outcome.picked old d mid e) (to : SpreadsTo n outcome.raising mid e left f) where
+    (does : DoesAt (next_event standing.keeps.state) caller.0 event outcome old mid) (follows : Follows n event outcome.answer outcome.picked old d mid e) (to : SpreadsTo n outcome.raising mid e left f) where
   abbrev spreads : Spreads n outcome.raising mid left
   spreads = to.spreads
 

@@ -1,14 +1,15 @@
 -- The registrations with given numbers.
-use Rattle.std.proofs.Common.{◌≡◌, ◌==◌, ◌&&◌, ◌<◌, ◌++◌, ◌+◌, ◌∙◌, ℕ, Bool, true, IsSome, List, [], ◌∷◌, None, Option, Some, ap, append_assoc, cond, drop, filter, get_or, inl, inr, is_some, length, map, min, nat_lt, refl, subst, sym}
+use Rattle.std.proofs.Common.{false, ◌≡◌, ◌==◌, ◌&&◌, ◌<◌, ◌++◌, ◌+◌, ◌∙◌, ℕ, Bool, true, IsSome, List, [], ◌∷◌, None, Option, Some, ap, append_assoc, cond, drop, filter, get_or, inl, inr, is_some, length, map, min, nat_lt, refl, subst, sym}
 use Rattle.std.specs.List.{cons_option, filter_map, list_all}
-use Rattle.std.specs.Option.{option_map}
 use Rattle.std.proofs.lemmas.Bool.{cases_Bool, false≢true}
 use Rattle.std.proofs.lemmas.List.{drop_more}
 use Rattle.std.proofs.lemmas.Option.{none-some}
+use Rattle.ep_facts.proofs.NatFacts.{from_test, same_test}
+use Rattle.ep_facts.proofs.BoolFacts.{both_true}
+use Rattle.ep_facts.proofs.OptionFacts.{some_mapped, some_same as some_one}
 use Rattle.ep_base.specs.declared.ids.DescId.{DescId}
 use Rattle.ep_base.specs.declared.ids.EntryId.{EntryId}
 use Rattle.ep_calls.proofs.EntryLemmas.{key_of, member_of, one_member}
-use Rattle.ep_calls.proofs.FindLemmas.{some_one}
 use Rattle.ep_calls.proofs.ReportLemmas.{find_at, find_kept}
 use Rattle.ep_calls.specs.Parts.{Parts}
 use Rattle.ep_calls.specs.Readiness.{entry_shows, readiness}
@@ -22,7 +23,6 @@ use Rattle.ep_interest.proofs.PurgeLemmas.{numbered_number}
 use Rattle.ep_interest.specs.Registrations.{IsSound, Registrations, entry_under, is_of, numbered}
 use Rattle.ep_interest.specs.declared.entry.Entry.{Entry}
 use Rattle.ep_law.proofs.ListLemmas.{all_member, each_found, filtered_member, filtered_passes, member_filter}
-use Rattle.ep_law.proofs.TestLemmas.{both_true, from_test, same_test}
 use Rattle.ep_law.specs.Laws.{Member}
 use Rattle.ep_machine.specs.Lists.{are_distinct}
 use Rattle.ep_machine.specs.Readiness.{reportables}
@@ -105,8 +105,8 @@ module _ (p : Parts) (d : Dates) (instance : DescId) (sound : IsSound p.interest
       by None e = refl
       by (Some y) e = absurd (h y (under_kept y e))
 
-    pub undated_none : event_at d.since k ≡ 0 → None ≡ numbered found k
-    undated_none h = none_numbered (λ y it. false≢true (sym (ap (nat_lt 0) (ap (event_at d.since) it.number ∙ h)) ∙ it.dated))
+    pub undated_none : nat_lt 0 (event_at d.since k) ≡ false → None ≡ numbered found k
+    undated_none h = none_numbered (λ y it. false≢true (sym (ap (λ (n : ℕ). nat_lt 0 (event_at d.since n)) it.number ∙ h) ∙ it.dated))
 
     pub absent_none : entry_under p.interest (id_at d.ids k) ≡ None → None ≡ numbered found k
     absent_none h = none_numbered (λ y it. none-some y (sym h ∙ it.under))
@@ -137,10 +137,6 @@ all_numbers xs (k ∷ ks) h = one (numbered xs k) refl (h k (inl refl)) (all_num
   one None is some rest = absurd (false≢true some)
   one (Some y) is some rest = let here = numbered_number xs k y is in λ i. here i ∷ rest i
 
-some_map : {X Y : Type 0} (f : X → Y) (o : Option X) → is_some (option_map f o) ≡ is_some o
-some_map f None = refl
-some_map f (Some x) = refl
-
 abbrev entries : List Reportable → List Entry
 entries xs = map (λ x. x.entry) xs
 
@@ -154,8 +150,8 @@ module _ {ws : List Waiter} (v : Seen) (now : ℕ) (r : Registrations) (s : Stat
   some_same k =
       let found = reportables_at v now r instance in
       let ready = reportables s (number_at v.keys instance) in
-      sym (sym (some_map (kernel_watch s) (find_watch ready k)) ∙ (ap (λ (o : Option KernelWatch). is_some o) (sym (find_kept s ready k)) ∙ (ap (λ (xs : List KernelWatch). is_some (view_of xs k)) (scans v now r s instance stands linked sound lives)
-      ∙ (ap (λ (o : Option KernelWatch). is_some o) (find_at v.keys found k) ∙ some_map (watch_at v.keys) (numbered found k)))))
+      sym (sym (some_mapped (kernel_watch s) (find_watch ready k)) ∙ (ap (λ (o : Option KernelWatch). is_some o) (sym (find_kept s ready k)) ∙ (ap (λ (xs : List KernelWatch). is_some (view_of xs k)) (scans v now r s instance stands linked sound lives)
+      ∙ (ap (λ (o : Option KernelWatch). is_some o) (find_at v.keys found k) ∙ some_mapped (watch_at v.keys) (numbered found k)))))
 
   -- where the machine may pick these, they are what is taken
   pub taken_numbers : (most : ℕ) (chosen : List Reportable) (ks : List ℕ) → is_pick s (number_at v.keys instance) most ks ≡ true → entries chosen ≡ filter_map (numbered (reportables_at v now r instance)) ks → numbers_of chosen ≡ ks

@@ -35,6 +35,8 @@ use Rattle.ep_calls.specs.Wait.{wait_call, wait_tests}
 use Rattle.ep_calls.specs.declared.wait.Wait.{Wait}
 use Rattle.ep_plain.specs.These.{CallsWait, Resumes, goes_with}
 use Rattle.std.proofs.Common.{unwrap_or}
+use Rattle.ep_facts.proofs.OptionFacts.{some_not_none}
+use Rattle.ep_facts.proofs.BoolFacts.{and_none}
 
 -- an event that makes no report
 plain_goes : (o : Option Errno) (s : State) (ks : List ℕ) (c : Change) → is_some (refused_or o s ks (plainly ks c)) ≡ is_empty ks
@@ -85,10 +87,6 @@ none_found (k ∷ ks) = none_found ks
 apart : (n : ℕ) → (0 == suc n) ≡ false
 apart n = grind (arith, nat_tests)
 
-and_false : (a b : Bool) → b ≡ false → (a && b) ≡ false
-and_false true b h = h
-and_false false b h = refl
-
 none_pick : (most : ℕ) (ks : List ℕ) → (are_distinct ks && length (watches_at [] ks) == length ks && length ks == min most 0 && list_all (is_fair_to (watches_at [] ks) ks) []) ≡ is_empty ks
 none_pick zero [] = refl
 none_pick (suc most) [] = ap (λ (n : ℕ). 0 == n && true) (least most) where
@@ -96,7 +94,7 @@ none_pick (suc most) [] = ap (λ (n : ℕ). 0 == n && true) (least most) where
   least n = omega arith
 none_pick most (k ∷ ks) =
     let short : (length (watches_at [] (k ∷ ks)) == length (k ∷ ks)) ≡ false = ap (λ (xs : List Watch). length xs == suc (length ks)) (none_found ks) ∙ apart (length ks) in
-    ap (λ (b : Bool). b && length (k ∷ ks) == min most 0 && true) (and_false (are_distinct (k ∷ ks)) (length (watches_at [] (k ∷ ks)) == length (k ∷ ks)) short)
+    ap (λ (b : Bool). b && length (k ∷ ks) == min most 0 && true) (and_none (are_distinct (k ∷ ks)) (length (watches_at [] (k ∷ ks)) == length (k ∷ ks)) short)
 
 idle_pick : (s : State) (e most : ℕ) (ks : List ℕ) → is_legal (links s) ≡ true → is_ready s e ≡ false → is_pick s e most ks ≡ is_empty ks
 idle_pick s e most ks legal idle =
@@ -127,10 +125,6 @@ by_ready s e most ks told c legal is = settled_some s (if is_ready s e then told
   | inl t ↦ ap (λ (b : Bool). is_some (if b then told else plainly ks c)) t ∙ is
   | inr f ↦ ap (λ (b : Bool). is_some (if b then told else plainly ks c)) f ∙ (plainly_some ks c ∙ sym (idle_pick s e most ks legal f))
 ]
-
-some_not_none : {X : Type 0} (o : Option X) → is_some o ≡ true → is_none o ≡ false
-some_not_none None h = sym h
-some_not_none (Some x) h = refl
 
 -- a call that waits may report what the machine may pick
 pub wait_goes : (p : Parts) (caller : ℕ) (event : Event) (args : Wait) (instance : DescId) (s : State) (ks : List ℕ) → CallsWait p caller event args instance → is_legal (links s) ≡ true → StandFor p s

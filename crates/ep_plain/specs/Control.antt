@@ -1,6 +1,6 @@
 -- The registration that an epoll_ctl is about, and its date where it is deleted.
 use Rattle.std.specs.Option.{option_map}
-use Rattle.std.specs.Prelude.{◌≡◌, ◌||◌, None, Option, Some, if◌then◌else◌, is_some, not}
+use Rattle.std.specs.Prelude.{◌≡◌, None, Option, Some, if◌then◌else◌}
 use Rattle.ep_base.specs.declared.ids.EntryId.{EntryId}
 use Rattle.ep_calls.specs.declared.control.Operation.{Operation}
 use Rattle.ep_calls.specs.declared.control.Operation.TheVariants.{Delete}
@@ -25,7 +25,7 @@ pub record IsInRow (d : Dates) (id : EntryId) (x : Entry) : Type 0 where
   pub place : HasPlace d id x
   pub listed : is_among (keys_at d.rows x.instance.0) id.0 ≡ is_dated d x
 
--- without its date, if it had one and is not there any more
-abbrev pub without_deleted : Option (EntryId × Entry) → Registrations → Dates → Dates
-without_deleted None r d = d
-without_deleted (Some w) r d = if is_some (entry_under r w.0) || not (is_dated d w.1) then d else ended w.0 w.1 d
+-- without its date, if it had one
+abbrev pub without_deleted : Option (EntryId × Entry) → Dates → Dates
+without_deleted None d = d
+without_deleted (Some w) d = if is_dated d w.1 then ended w.0 w.1 d else d

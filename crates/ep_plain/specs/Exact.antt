@@ -1,10 +1,12 @@
 -- What is known of the dates between events, and what an event does to them before what it raised spreads.
-use Rattle.std.specs.Prelude.{[], ◌<◌, ◌≡◌, ◌==◌, All, IsSome, List, Option, Some, nat_lt, ℕ}
+use Rattle.std.specs.Prelude.{[], ◌<◌, ◌≡◌, ◌==◌, All, IsSome, List, Option, Some, nat_lt, true, ℕ}
+use Rattle.ep_base.specs.declared.answer.Answer.{Answer}
 use Rattle.ep_base.specs.declared.call.Call.TheVariants.{EpollCtl}
 use Rattle.ep_base.specs.declared.call.Event.{Event}
 use Rattle.ep_base.specs.declared.call.Event.TheVariants.{Call as CallOf}
 use Rattle.ep_base.specs.declared.ids.DescId.{DescId}
 use Rattle.ep_base.specs.declared.ids.EntryId.{EntryId}
+use Rattle.ep_calls.specs.Control.{is_done}
 use Rattle.ep_calls.specs.Parking.{ready_key}
 use Rattle.ep_calls.specs.Parts.{Parts}
 use Rattle.ep_calls.specs.Readiness.{entry_shows, readiness}
@@ -55,10 +57,10 @@ IsNamed v event x = ⊥
 abbrev pub IsAlteredKey : Seen → Event → Registrations → Option EntryId → Type 0
 IsAlteredKey v event r altered = (id : EntryId) (x : Entry) → entry_under r id ≡ Some x → IsNamed v event x → altered ≡ Some id
 
--- event n reported these, before what it raised spreads
-pub record Follows (n : ℕ) (event : Event) (picked : List ℕ) (old : Parts) (d : Dating) (new : Parts) (e : Dating) : Type 0 where
+-- event n had this answer and reported these, before what it raised spreads
+pub record Follows (n : ℕ) (event : Event) (answer : Answer) (picked : List ℕ) (old : Parts) (d : Dating) (new : Parts) (e : Dating) : Type 0 where
   pub loses : Loses old.interest new.interest d.dates e.dates
   pub fits : Fits new.interest e
   pub told : TellsReports n picked new.interest
-  pub altered : IsAlteredKey old.tables event new.interest e.altered
+  pub altered : is_done answer ≡ true → IsAlteredKey old.tables event new.interest e.altered
   pub lost : NotesLost old new d.choice.lost.reached e.choice.lost.reached

@@ -1,5 +1,5 @@
 -- What contracts see of the kernel, and what holds of it.
-use Rattle.std.specs.Prelude.{[], List, length, vec_capacity, ◌≡◌}
+use Rattle.std.specs.Prelude.{[], ◌+◌, List, length, ◌≡◌}
 use Rattle.ep_alarms.specs.Alarms.{AreSet}
 use Rattle.ep_base.specs.declared.record.Record.{Record}
 use Rattle.ep_calls.specs.Book.{Book}
@@ -13,7 +13,7 @@ use Rattle.ep_plain.specs.declared.dating.Dating.{Dating}
 use Rattle.ep_plain.specs.declared.plain.PlainKernel.TheInside.{Inside}
 
 abbrev pub book_of : Inside → Book
-book_of k = record { limits = k.parts.tables.limits; past = k.history.items; capacity = vec_capacity k.history }
+book_of k = record { limits = k.parts.tables.limits; past = k.history.items; capacity = length k.history.items + k.history.room }
 
 -- the history leads to a state for which the parts stand and whose dates are kept: they tell which instances are ready,
 -- don't sink along a row, and fit the registrations

@@ -14,42 +14,40 @@ ghost use Rattle.ep_calls.specs.TableCall.{MakesTimer};
 ghost use Rattle.ep_plain.specs.Dating.{Grows};
 ghost use Rattle.ep_plain.specs.Exact.{Follows, IsExact};
 
-use crate::control::{epoll_ctl, find_altered};
+use crate::control::epoll_ctl;
 use crate::dating::Dating;
-use crate::stamp::Stamp;
 use crate::wait::{epoll_wait, resume};
 use ep_base::{Call, Errno, Event, Pid};
-use ep_calls::{Control, Outcome, Parts, Wait};
+use ep_calls::{Control, Outcome, Parts, Request, Wait};
 use std::alloc::AllocError;
 
-/// A call of a process that is there. `kept`: a second record of it is asked for. An `Err` is want of memory, or of
-/// room for what it would add. It leaves the parts, and comes only if nothing refuses the call.
+/// A call of a process that is there. An `Err` is want of memory, or of room for what it would add. It leaves the
+/// parts, and comes only if nothing refuses the call.
 #[inline(always)]
 fn make_call(
     parts: &mut Parts,
-    stamp: Stamp,
+    request: Request,
     pid: Pid,
     call: &Call,
     dating: &mut Dating,
-    kept: bool,
 ) -> Result<Outcome, AllocError>
-    requires free { list_any (is_caller stamp.caller.0) parts.old.parked ≡ false }
+    requires free { list_any (is_caller request.caller.0) parts.old.parked ≡ false }
     requires process { is_some (table_of parts.old.tables.files pid.0) ≡ true }
-    requires step { 0 < stamp.step }
-    requires exact { IsExact stamp.step parts.old dating.old }
+    requires step { 0 < request.step }
+    requires exact { IsExact request.step parts.old dating.old }
     ensures ok { IfOk result
-        (λ outcome. DoesCall stamp.step stamp.caller.0 pid.0 call.now outcome parts.old
+        (λ outcome. DoesCall request.step request.caller.0 pid.0 call.now outcome parts.old
         parts.new) }
     ensures tables { IfOk result
         (λ outcome. CallsTables pid.0 call.now outcome.answer parts.old parts.new) }
     ensures clock { IfOk result
         (λ outcome. ClockStays outcome.raising parts.old.clock parts.new.clock) }
-    ensures timers { stamp.has_room ≡ false → MakesTimer call.now
+    ensures timers { request.has_room ≡ false → MakesTimer call.now
         → parts.new.tables ≡ parts.old.tables }
     ensures follows { IfOk result
-        (λ outcome. Follows stamp.step (CallOf pid call.now) outcome.picked parts.old dating.old
-        parts.new dating.new) }
-    ensures kept { IfOk result (λ outcome. KeepsCall call.now kept outcome) }
+        (λ outcome. Follows request.step (CallOf pid call.now) outcome.answer outcome.picked
+        parts.old dating.old parts.new dating.new) }
+    ensures kept { IfOk result (λ outcome. KeepsCall call.now request.kept outcome) }
     ensures spared { TakesNoMemory parts.old.tables.files pid.0 call.now → IsOk result }
     ensures last { OnErr result (NothingRefusesCall parts.old pid.0 call.now) }
     ensures err { OnErr result (parts.new ≡ parts.old) }
@@ -78,57 +76,54 @@ fn make_call(
                 epfd,
                 max,
                 timeout,
-                kept,
+                kept: request.kept,
             };
-            epoll_wait(parts, stamp, args, dating)
+            epoll_wait(parts, request, args, dating)
         }
-        _ => parts.file_call(pid, call, kept, stamp.has_room),
+        _ => parts.file_call(pid, call, request.kept, request.has_room),
     }
 }
 
-/// One event: its refusal, ESRCH first for a call, or its change. `kept`: a second record of it is asked for.
-/// An `Err` is want of memory, or of room for what it would add. It leaves the parts. It comes of no event that
-/// `IsSpared` names, and only if nothing refuses the event.
+/// One event: its refusal, ESRCH first for a call, or its change. An `Err` is want of memory, or of room for what it
+/// would add. It leaves the parts. It comes of no event that `IsSpared` names, and only if nothing refuses the event.
 #[inline(always)]
 pub fn act(
     parts: &mut Parts,
-    stamp: Stamp,
+    request: Request,
     event: &Event,
     dating: &mut Dating,
-    kept: bool,
 ) -> Result<Outcome, AllocError>
-    requires step { 0 < stamp.step }
-    requires exact { IsExact stamp.step parts.old dating.old }
+    requires step { 0 < request.step }
+    requires exact { IsExact request.step parts.old dating.old }
     ensures ok { IfOk result
-        (λ outcome. DoesEvent stamp.step stamp.caller.0 event.now outcome parts.old parts.new) }
+        (λ outcome. DoesEvent request.step request.caller.0 event.now outcome parts.old
+        parts.new) }
     ensures tables { IfOk result
         (λ outcome. TouchesTables event.now outcome.answer parts.old parts.new) }
     ensures clock { IfOk result
         (λ outcome. MovesClock event.now outcome.raising parts.old.clock parts.new.clock) }
-    ensures timers { stamp.has_room ≡ false → MayCreate event.now
+    ensures timers { request.has_room ≡ false → MayCreate event.now
         → parts.new.tables ≡ parts.old.tables }
     ensures follows { IfOk result
-        (λ outcome. Follows stamp.step event.now outcome.picked parts.old dating.old parts.new
-        dating.new) }
-    ensures kept { IfOk result (λ outcome. KeepsEvent event.now kept outcome) }
+        (λ outcome. Follows request.step event.now outcome.answer outcome.picked parts.old
+        dating.old parts.new dating.new) }
+    ensures kept { IfOk result (λ outcome. KeepsEvent event.now request.kept outcome) }
     ensures spared { IsSpared parts.old.tables.files event.now → IsOk result }
-    ensures last { OnErr result (NothingRefuses parts.old stamp.caller.0 event.now) }
+    ensures last { OnErr result (NothingRefuses parts.old request.caller.0 event.now) }
     ensures err { OnErr result (parts.new ≡ parts.old) }
     ensures grows { OnErr result (Grows dating.old dating.new) }
 {
     match event {
         Event::Call { pid, call } => {
             if !parts.tables.has_process(*pid) {
-                dating.altered = find_altered(parts, *pid, call);
                 return Ok(Outcome::refused(parts.alloc, Errno::Esrch));
             }
-            if parts.waiters.is_parked(stamp.caller) {
-                dating.altered = find_altered(parts, *pid, call);
+            if parts.waiters.is_parked(request.caller) {
                 return Ok(Outcome::refused(parts.alloc, Errno::Ebusy));
             }
-            make_call(parts, stamp, *pid, call, dating, kept)
+            make_call(parts, request, *pid, call, dating)
         }
-        Event::Resume => resume(parts, stamp, dating, kept),
+        Event::Resume => resume(parts, request, dating),
         Event::Tick { n } => Ok(parts.tick(*n)),
     }
 }

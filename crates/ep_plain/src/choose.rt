@@ -1,11 +1,10 @@
 //! Which registrations a wait reports: of those of its instance that are reportable the longest unreported.
-ghost use Rattle.std.specs.Prelude.{◌≡◌, IfOk, IsSome, map, nat_lt, true};
+ghost use Rattle.std.specs.Prelude.{◌≡◌, IfOk, IsSome, map, true};
 ghost use Rattle.ep_calls.specs.Readiness.{entry_bits, readiness};
 ghost use Rattle.ep_table.specs.Value.{number_under};
 ghost use Rattle.ep_machine.specs.Waits.{is_positive};
 ghost use Rattle.ep_machine.specs.Watches.{number_in};
 ghost use Rattle.ep_calls.specs.Wait.{AreKeyed};
-ghost use Rattle.ep_dates.specs.Dates.{event_at};
 ghost use Rattle.ep_plain.specs.Choose.{IsChosen, reportables_at};
 ghost use Rattle.ep_plain.specs.Exact.{TellsReady, TellsShown};
 
@@ -14,13 +13,6 @@ use ep_calls::{Parts, Reportable, shown_at};
 use ep_dates::Dates;
 use ep_interest::Entry;
 use std::alloc::AllocError;
-
-/// Whether a registration is reportable.
-fn is_dated(dates: &Dates, entry: &Entry) -> bool
-    ensures { result ≡ nat_lt 0 (event_at dates.now.since entry.now.number) }
-{
-    dates.since(entry.number).0 > 0
-}
 
 /// A registration with its key and what it shows. Of the instance that it watches only the dates are asked.
 pub fn reportable(parts: &Parts, dates: &Dates, id: EntryId, entry: &Entry) -> Reportable
@@ -59,7 +51,7 @@ fn reportables(
     parts.interest.known();
     let mut found = Vec::new(parts.alloc);
     for (id, entry) in parts.interest.entries(instance) {
-        if is_dated(dates, entry) {
+        if dates.is_dated(entry.number) {
             found.push(reportable(parts, dates, id, entry))?;
         }
     }

@@ -1,6 +1,5 @@
 //! epoll_ctl, with the dates.
 ghost use Rattle.std.specs.Prelude.{◌≡◌, ◌<◌, ◌+◌, IfOk, IfSome, IsOk, None, OnErr, false, true, ℕ, ℤ};
-ghost use Rattle.ep_base.specs.declared.call.Call.TheVariants.{EpollCtl};
 ghost use Rattle.ep_base.specs.declared.call.Event.TheVariants.{Call as CallOf};
 ghost use Rattle.ep_machine.specs.Watches.{is_add};
 ghost use Rattle.ep_calls.specs.Clock.{ClockStays};
@@ -10,15 +9,15 @@ ghost use Rattle.ep_calls.specs.Last.{NothingRefusesCall};
 ghost use Rattle.ep_calls.specs.declared.control.Operation.TheVariants.{Add};
 ghost use Rattle.ep_plain.specs.Control.{IsInRow, deleted_in, key_of, without_deleted};
 ghost use Rattle.ep_plain.specs.Dating.{Grows, HasRoomFor};
-ghost use Rattle.ep_plain.specs.Exact.{Follows, IsAlteredKey, IsExact};
+ghost use Rattle.ep_plain.specs.Exact.{Follows, IsExact};
 
 use crate::dating::Dating;
 use crate::settle::know;
-use ep_base::{Call, EntryId, EntryNumber, Fd, Mask, Pid};
+use ep_base::{EntryId, EntryNumber, Mask, Pid};
 use ep_calls::{Control, Named, Operation, Outcome, Parts, Plan};
 use ep_choice::note_deleted;
 use ep_dates::Dates;
-use ep_interest::{Entry, Interest};
+use ep_interest::Entry;
 use std::alloc::AllocError;
 
 /// Makes room for what is kept of the registration that is added next, and answers whether there is. `false` is want of
@@ -50,28 +49,6 @@ fn make_room(parts: &Parts, dating: &mut Dating, plan: Plan, mask: Mask) -> bool
     }
 }
 
-/// The registration that an epoll_ctl with these descriptors names.
-fn find_named(parts: &Parts, pid: Pid, epfd: Fd, fd: Fd) -> Option<EntryId>
-    ensures { (op : ℤ) (mask : Mask) (tag : ℕ)
-        → IsAlteredKey parts.now.tables (CallOf pid (EpollCtl epfd op fd mask tag))
-        parts.now.interest result }
-{
-    know(parts);
-    let instance = parts.tables.lookup(pid, epfd)?;
-    let desc = parts.tables.lookup(pid, fd)?;
-    parts.interest.find(instance, fd, desc)
-}
-
-/// The registration that a call names; `None` if it is no epoll_ctl.
-pub fn find_altered(parts: &Parts, pid: Pid, call: &Call) -> Option<EntryId>
-    ensures { IsAlteredKey parts.now.tables (CallOf pid call.now) parts.now.interest result }
-{
-    match *call {
-        Call::EpollCtl { epfd, fd, .. } => find_named(parts, pid, epfd, fd),
-        _ => None,
-    }
-}
-
 /// The key of the registration that a call is about: that of the one that is there, or of the one that is added next.
 fn key_of(parts: &Parts, plan: Plan) -> EntryId
     ensures { result ≡ key_of parts.now.interest plan.found }
@@ -94,27 +71,23 @@ fn find_deleted(parts: &Parts, plan: Plan) -> Option<(EntryId, Entry)>
     Some((id, *entry))
 }
 
-/// Takes the date away of a registration that was to be deleted, if it is gone.
-fn drop_deleted(interest: &Interest, deleted: Option<(EntryId, Entry)>, dates: &mut Dates)
+/// Takes the date away of the registration that was deleted, if it had one.
+fn drop_deleted(deleted: Option<(EntryId, Entry)>, dates: &mut Dates)
     requires { IfSome deleted (λ w. IsInRow dates.old w.0 w.1) }
-    ensures { dates.new ≡ without_deleted deleted interest.now dates.old }
+    ensures { dates.new ≡ without_deleted deleted dates.old }
 {
     let Some((id, entry)) = deleted else {
         return;
     };
-    if interest.get(id).is_some() {
-        return;
+    if dates.is_dated(entry.number) {
+        dates.end(id, &entry);
     }
-    if dates.since(entry.number).0 == 0 {
-        return;
-    }
-    dates.end(id, &entry);
 }
 
 /// epoll_ctl(2), as `Parts::plan` and `Parts::control` do it, with the dates: a registration that is added gets a
 /// place, and one that is deleted loses its date. Of the instance that it watches only the dates are asked whether it
-/// is ready. What it names is noted as altered. A refusal leaves the parts, and so does an `Err`, with no date changed.
-/// That is want of memory, and comes only of an ADD that nothing refuses.
+/// is ready. What it is about is noted as altered. A refusal leaves the parts, and so does an `Err`, with no date
+/// changed. That is want of memory, and comes only of an ADD that nothing refuses.
 pub fn epoll_ctl(
     parts: &mut Parts,
     dating: &mut Dating,
@@ -127,8 +100,8 @@ pub fn epoll_ctl(
         → DoesCall n caller pid.0 (control_call args) outcome parts.old parts.new) }
     ensures follows { IfOk result
         (λ outcome. (n : ℕ) → 0 < n → IsExact n parts.old dating.old
-        → Follows n (CallOf pid (control_call args)) outcome.picked parts.old dating.old
-        parts.new dating.new) }
+        → Follows n (CallOf pid (control_call args)) outcome.answer outcome.picked parts.old
+        dating.old parts.new dating.new) }
     ensures tables { parts.new.tables ≡ parts.old.tables }
     ensures clock { IfOk result
         (λ outcome. ClockStays outcome.raising parts.old.clock parts.new.clock) }
@@ -140,10 +113,7 @@ pub fn epoll_ctl(
     know(parts);
     let mut plan = match parts.plan(pid, args) {
         Ok(plan) => plan,
-        Err(refused) => {
-            dating.altered = find_named(parts, pid, args.epfd, args.fd);
-            return Ok(refused);
-        }
+        Err(refused) => return Ok(refused),
     };
     dating.altered = Some(key_of(parts, plan));
     plan.below = dating.dates.is_ready(plan.named.desc);
@@ -152,6 +122,6 @@ pub fn epoll_ctl(
     let deleted = find_deleted(parts, plan);
     let outcome = parts.control(pid, args, plan)?;
     know(parts);
-    drop_deleted(&parts.interest, deleted, &mut dating.dates);
+    drop_deleted(deleted, &mut dating.dates);
     Ok(outcome)
 }

@@ -6,7 +6,7 @@ use ep_base::{EntryId, EntryNumber, Mask};
 use ep_calls::Named;
 use ep_choice::Choice;
 use ep_dates::Dates;
-use ep_ready::Walk;
+use ep_walk::Walk;
 use std::alloc::{AllocError, Global};
 
 /// Since which event each registration is reportable, and what an event touches, by which it is dated at the end.

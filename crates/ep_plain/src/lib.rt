@@ -9,7 +9,6 @@ mod date;
 mod dating;
 mod plain;
 mod settle;
-mod stamp;
 mod take;
 mod these;
 mod wait;

@@ -18,14 +18,14 @@ ghost use Rattle.ep_plain.specs.StepWith.{AddsBy, HasStep, StepsWith};
 use crate::date::date_all;
 use crate::dating::Dating;
 use crate::settle::{know, rest, spread};
-use crate::stamp::Stamp;
 use crate::these::{act_with, allows};
 use ep_alarms::{Alarms, find_called};
 use ep_base::{Answer, CallerId, EntryNumber, Errno, Event, EventNumber, Limits, Moment, Record};
-use ep_calls::{Kernel, Parts, Spare};
+use ep_calls::{Kernel, Parts, Request, Spare};
 use ep_climb::{attend, left, resumed_at};
 use ep_law::laws::{ends_are_apart, reportables_are_spread};
 use ep_order::{marked_are_looked_at, untouched_stay_reportable};
+use ep_records::{History, Numbers};
 use std::alloc::{AllocError, Global};
 use std::marker::Model;
 
@@ -40,7 +40,7 @@ use std::marker::Model;
 #[derive(Drop)]
 pub struct PlainKernel {
     parts: Parts,
-    history: Vec<Record>,
+    history: History,
     dating: Dating,
     alarms: Alarms,
 }
@@ -76,13 +76,13 @@ fn know_laws(parts: &Parts)
 }
 
 /// The registrations that the last record reports.
-fn last_picked(history: &[Record]) -> &[EntryNumber]
-    ensures { (past : List Recorded) (last : Recorded) → history.now ≡ past ++ last ∷ []
-        → result.now ≡ last.picked }
+fn last_picked(history: &History) -> Numbers<'_>
+    ensures { (past : List Recorded) (last : Recorded) → history.now.items ≡ past ++ last ∷ []
+        → result ≡ last.picked }
 {
     match history.last() {
-        Some(record) => record.picked.as_slice(),
-        None => &[],
+        Some(entry) => entry.picked(),
+        None => Numbers::none(),
     }
 }
 
@@ -96,7 +96,7 @@ impl PlainKernel {
         let parts = Parts::new(alloc, limits)?;
         Ok(PlainKernel {
             parts,
-            history: Vec::new(alloc),
+            history: History::new(alloc),
             dating: Dating::new(alloc),
             alarms: Alarms::new(alloc),
         })
@@ -138,24 +138,17 @@ impl PlainKernel {
         know_laws(&self.parts);
         let called = find_called(&self.parts, &event);
         let resumed = resumed_at(&self.parts, caller, &event);
-        let stamp = Stamp {
+        let request = Request {
             step,
             caller,
+            kept,
             has_room,
         };
-        let outcome = act_with(
-            &mut self.parts,
-            stamp,
-            &event,
-            &mut self.dating,
-            picks,
-            kept,
-        )?;
+        let outcome = act_with(&mut self.parts, request, &event, &mut self.dating, picks)?;
         self.alarms
             .follow(&self.parts, &event, called, &outcome, has_room);
         let raising = outcome.raising;
-        let (answer, spare, record) = outcome.into_record(caller, event, kept);
-        self.history.push_reserved(record);
+        let (answer, spare) = outcome.put_record(&mut self.history, caller, event, kept);
         // A copy, since the prover takes what is passed on as moved.
         let raised = raising;
         spread(
@@ -166,7 +159,13 @@ impl PlainKernel {
             raised,
         );
         let reported = last_picked(&self.history);
-        date_all(&self.parts, step, called, reported, &mut self.dating);
+        date_all(
+            &self.parts,
+            step,
+            called,
+            reported.as_slice(),
+            &mut self.dating,
+        );
         let attended = attend(left(&self.parts, caller, resumed), raising);
         rest(&mut self.parts, &mut self.dating, attended, step);
         Ok((answer, spare))
@@ -280,7 +279,7 @@ impl Kernel for PlainKernel {
         self.history.reserve(additional)
     }
 
-    fn history(&self) -> &[Record] {
+    fn history(&self) -> &History {
         &self.history
     }
 

@@ -23,7 +23,7 @@ use crate::dating::Dating;
 use ep_alarms::{Alarms, burial_leaves_alarms};
 use ep_base::{DescId, EventNumber};
 use ep_calls::{Parts, Raising};
-use ep_choice::{mark, note_dying};
+use ep_choice::{mark_woken, note_dying};
 use ep_climb::climb;
 use ep_dates::drop_dying;
 
@@ -107,7 +107,7 @@ pub fn rest(parts: &mut Parts, dating: &mut Dating, attend: Option<DescId>, step
     let mut by_dates = ByDates {
         dates: &dating.dates,
     };
-    mark(
+    mark_woken(
         parts,
         &mut by_dates,
         &mut dating.reached,

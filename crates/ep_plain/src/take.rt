@@ -32,7 +32,7 @@ fn find_number(
 {
     parts.known();
     parts.interest.known();
-    if dates.since(number).0 == 0 {
+    if !dates.is_dated(number) {
         return None;
     }
     let id = dates.id(number);

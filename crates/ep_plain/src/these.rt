@@ -24,11 +24,10 @@ ghost use Rattle.ep_plain.specs.These.{ForEach, MayGo, MayPick, MayReport, Picks
 use crate::act::act;
 use crate::choose::most;
 use crate::dating::Dating;
-use crate::stamp::Stamp;
 use crate::take::take;
 use crate::waiting::{Waiting, find_waiting};
 use ep_base::{CallerId, DescId, EntryNumber, Event};
-use ep_calls::{Outcome, Parts, Wait};
+use ep_calls::{Outcome, Parts, Request, Wait};
 use ep_dates::is_pick;
 use ep_park::Waiter;
 use std::alloc::AllocError;
@@ -36,23 +35,23 @@ use std::alloc::AllocError;
 /// A call that waits, not refused, and reports what it is given. An `Err` is want of memory and leaves the parts.
 fn wait_these(
     parts: &mut Parts,
-    stamp: Stamp,
+    request: Request,
     args: Wait,
     instance: DescId,
     dating: &Dating,
     picks: &[EntryNumber],
 ) -> Result<Outcome, AllocError>
-    requires free { list_any (is_caller stamp.caller.0) parts.old.parked ≡ false }
+    requires free { list_any (is_caller request.caller.0) parts.old.parked ≡ false }
     requires waits { Waits parts.old.tables args instance }
-    requires exact { IsExact stamp.step parts.old dating.now }
+    requires exact { IsExact request.step parts.old dating.now }
     ensures ok { IfOk result
         (λ outcome. DoesCallIf (MayPick parts.old instance (number_in args.max) picks.now)
-        stamp.step stamp.caller.0 args.pid.0 (wait_call args) outcome parts.old parts.new) }
+        request.step request.caller.0 args.pid.0 (wait_call args) outcome parts.old parts.new) }
     ensures leaves { IfOk result (λ outcome. LeavesFiles outcome.raising parts.old parts.new) }
     ensures ids { parts.new.interest.keys ≡ parts.old.interest.keys }
     ensures entries { IfOk result
         (λ outcome. parts.new.interest.entries
-        ≡ map (with_report stamp.step outcome.picked) parts.old.interest.entries) }
+        ≡ map (with_report request.step outcome.picked) parts.old.interest.entries) }
     ensures picked { IfOk result
         (λ outcome. WherePicked parts.old instance (number_in args.max) picks.now
         (outcome.picked ≡ picks.now)) }
@@ -61,121 +60,120 @@ fn wait_these(
 {
     parts.tables.known();
     let chosen = take(parts, &dating.dates, instance, picks)?;
-    parts.wait_with(stamp.step, stamp.caller, args, instance, &chosen)
+    parts.wait_with(request.step, request.caller, args, instance, &chosen)
 }
 
 /// The resumption of a marked caller that reports what it is given. An `Err` is want of memory and leaves the parts.
 fn resume_these(
     parts: &mut Parts,
-    stamp: Stamp,
+    request: Request,
     waiter: Waiter,
     dating: &Dating,
     picks: &[EntryNumber],
 ) -> Result<Outcome, AllocError>
-    requires parked { find (is_caller stamp.caller.0) parts.old.parked
-        ≡ Some (parked stamp.caller.0 waiter) }
+    requires parked { find (is_caller request.caller.0) parts.old.parked
+        ≡ Some (parked request.caller.0 waiter) }
     requires marked { waiter.marked ≡ true }
-    requires exact { IsExact stamp.step parts.old dating.now }
+    requires exact { IsExact request.step parts.old dating.now }
     ensures ok { IfOk result
         (λ outcome. DoesEventIf (MayPick parts.old waiter.instance (number_in waiter.max) picks.now)
-        stamp.step stamp.caller.0 Resume outcome parts.old parts.new) }
+        request.step request.caller.0 Resume outcome parts.old parts.new) }
     ensures leaves { IfOk result (λ outcome. LeavesFiles outcome.raising parts.old parts.new) }
     ensures ids { parts.new.interest.keys ≡ parts.old.interest.keys }
     ensures entries { IfOk result
         (λ outcome. parts.new.interest.entries
-        ≡ map (with_report stamp.step outcome.picked) parts.old.interest.entries) }
+        ≡ map (with_report request.step outcome.picked) parts.old.interest.entries) }
     ensures picked { IfOk result
         (λ outcome. WherePicked parts.old waiter.instance (number_in waiter.max) picks.now
         (outcome.picked ≡ picks.now)) }
-    ensures last { OnErr result (NothingRefuses parts.old stamp.caller.0 Resume) }
+    ensures last { OnErr result (NothingRefuses parts.old request.caller.0 Resume) }
     ensures err { OnErr result (parts.new ≡ parts.old) }
 {
     parts.tables.known();
     let chosen = take(parts, &dating.dates, waiter.instance, picks)?;
-    parts.resume_with(stamp.step, stamp.caller, waiter, &chosen, false)
+    parts.resume_with(request.step, request.caller, waiter, &chosen, request.kept)
 }
 
 /// One event whose report is of these registrations, in this order. An `Err` is want of memory, or of room for what it
 /// would add. It leaves the parts, and comes only if nothing refuses the event.
 fn act_these(
     parts: &mut Parts,
-    stamp: Stamp,
+    request: Request,
     event: &Event,
     dating: &mut Dating,
     picks: &[EntryNumber],
 ) -> Result<Outcome, AllocError>
-    requires step { 0 < stamp.step }
-    requires exact { IsExact stamp.step parts.old dating.old }
+    requires step { 0 < request.step }
+    requires exact { IsExact request.step parts.old dating.old }
     ensures ok { IfOk result
-        (λ outcome. DoesEventIf (MayGo parts.old stamp.caller.0 event.now picks.now) stamp.step
-        stamp.caller.0 event.now outcome parts.old parts.new) }
+        (λ outcome. DoesEventIf (MayGo parts.old request.caller.0 event.now picks.now) request.step
+        request.caller.0 event.now outcome parts.old parts.new) }
     ensures tables { IfOk result
         (λ outcome. TouchesTables event.now outcome.answer parts.old parts.new) }
     ensures clock { IfOk result
         (λ outcome. MovesClock event.now outcome.raising parts.old.clock parts.new.clock) }
-    ensures timers { stamp.has_room ≡ false → MayCreate event.now
+    ensures timers { request.has_room ≡ false → MayCreate event.now
         → parts.new.tables ≡ parts.old.tables }
     ensures follows { IfOk result
-        (λ outcome. Follows stamp.step event.now outcome.picked parts.old dating.old parts.new
-        dating.new) }
+        (λ outcome. Follows request.step event.now outcome.answer outcome.picked parts.old dating.old
+        parts.new dating.new) }
     ensures picked { IfOk result
-        (λ outcome. PicksThese stamp.step parts.old stamp.caller.0 event.now picks.now
+        (λ outcome. PicksThese request.step parts.old request.caller.0 event.now picks.now
         outcome.picked) }
-    ensures last { OnErr result (NothingRefuses parts.old stamp.caller.0 event.now) }
+    ensures last { OnErr result (NothingRefuses parts.old request.caller.0 event.now) }
     ensures err { OnErr result (parts.new ≡ parts.old) }
     ensures grows { OnErr result (Grows dating.old dating.new) }
 {
-    match find_waiting(parts, stamp.caller, event) {
+    match find_waiting(parts, request.caller, event) {
         Some(Waiting::Call { args, instance }) => {
-            wait_these(parts, stamp, args, instance, dating, picks)
+            wait_these(parts, request, args, instance, dating, picks)
         }
-        Some(Waiting::Parked { waiter }) => resume_these(parts, stamp, waiter, dating, picks),
-        None => act(parts, stamp, event, dating, false),
+        Some(Waiting::Parked { waiter }) => resume_these(parts, request, waiter, dating, picks),
+        None => act(parts, request, event, dating),
     }
 }
 
 /// One event whose report is of these registrations, in this order, and of the longest unreported where none are given:
-/// then `kept` asks for what a second record of it is made of. An `Err` is want of memory, or of room for what it would
+/// then it may ask for what a second record of it is made of. An `Err` is want of memory, or of room for what it would
 /// add. It leaves the parts, and comes only if nothing refuses the event. Where none are given, it comes of no event
 /// that `IsSpared` names.
 #[inline(always)]
 pub fn act_with(
     parts: &mut Parts,
-    stamp: Stamp,
+    request: Request,
     event: &Event,
     dating: &mut Dating,
     picks: Option<&[EntryNumber]>,
-    kept: bool,
 ) -> Result<Outcome, AllocError>
-    requires step { 0 < stamp.step }
-    requires exact { IsExact stamp.step parts.old dating.old }
+    requires step { 0 < request.step }
+    requires exact { IsExact request.step parts.old dating.old }
     ensures ok { IfOk result
         (λ outcome. DoesEventIf
-        (MayReport parts.old stamp.caller.0 event.now (option_copied picks.entry)) stamp.step
-        stamp.caller.0 event.now outcome parts.old parts.new) }
+        (MayReport parts.old request.caller.0 event.now (option_copied picks.entry)) request.step
+        request.caller.0 event.now outcome parts.old parts.new) }
     ensures tables { IfOk result
         (λ outcome. TouchesTables event.now outcome.answer parts.old parts.new) }
     ensures clock { IfOk result
         (λ outcome. MovesClock event.now outcome.raising parts.old.clock parts.new.clock) }
-    ensures timers { stamp.has_room ≡ false → MayCreate event.now
+    ensures timers { request.has_room ≡ false → MayCreate event.now
         → parts.new.tables ≡ parts.old.tables }
     ensures follows { IfOk result
-        (λ outcome. Follows stamp.step event.now outcome.picked parts.old dating.old parts.new
-        dating.new) }
+        (λ outcome. Follows request.step event.now outcome.answer outcome.picked parts.old dating.old
+        parts.new dating.new) }
     ensures picked { IfOk result
-        (λ outcome. ReportsThese stamp.step parts.old stamp.caller.0 event.now
+        (λ outcome. ReportsThese request.step parts.old request.caller.0 event.now
         (option_copied picks.entry) outcome.picked) }
     ensures kept { IfOk result
-        (λ outcome. IfNone (option_copied picks.entry) (KeepsEvent event.now kept outcome)) }
+        (λ outcome. IfNone (option_copied picks.entry) (KeepsEvent event.now request.kept outcome)) }
     ensures spared { option_copied picks.entry ≡ None → IsSpared parts.old.tables.files event.now
         → IsOk result }
-    ensures last { OnErr result (NothingRefuses parts.old stamp.caller.0 event.now) }
+    ensures last { OnErr result (NothingRefuses parts.old request.caller.0 event.now) }
     ensures err { OnErr result (parts.new ≡ parts.old) }
     ensures grows { OnErr result (Grows dating.old dating.new) }
 {
     match picks {
-        None => act(parts, stamp, event, dating, kept),
-        Some(picks) => act_these(parts, stamp, event, dating, picks),
+        None => act(parts, request, event, dating),
+        Some(picks) => act_these(parts, request, event, dating, picks),
     }
 }
 

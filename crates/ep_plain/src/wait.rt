@@ -13,9 +13,8 @@ ghost use Rattle.ep_plain.specs.Exact.{IsExact};
 
 use crate::choose::choose;
 use crate::dating::Dating;
-use crate::stamp::Stamp;
 use ep_base::{Answer, Errno};
-use ep_calls::{Outcome, Parts, Raising, Wait, find_instance};
+use ep_calls::{Outcome, Parts, Raising, Request, Wait, find_instance};
 use std::alloc::AllocError;
 
 /// epoll_wait(2): at most `max` reports of what is reportable at an instance now, the longest unreported first. If
@@ -25,20 +24,20 @@ use std::alloc::AllocError;
 /// nothing refuses the call.
 pub fn epoll_wait(
     parts: &mut Parts,
-    stamp: Stamp,
+    request: Request,
     args: Wait,
     dating: &Dating,
 ) -> Result<Outcome, AllocError>
-    requires free { list_any (is_caller stamp.caller.0) parts.old.parked ≡ false }
-    requires exact { IsExact stamp.step parts.old dating.now }
+    requires free { list_any (is_caller request.caller.0) parts.old.parked ≡ false }
+    requires exact { IsExact request.step parts.old dating.now }
     ensures ok { IfOk result
-        (λ outcome. DoesCall stamp.step stamp.caller.0 args.pid.0 (wait_call args) outcome
+        (λ outcome. DoesCall request.step request.caller.0 args.pid.0 (wait_call args) outcome
         parts.old parts.new) }
     ensures leaves { IfOk result (λ outcome. LeavesFiles outcome.raising parts.old parts.new) }
     ensures ids { parts.new.interest.keys ≡ parts.old.interest.keys }
     ensures entries { IfOk result
         (λ outcome. parts.new.interest.entries
-        ≡ map (with_report stamp.step outcome.picked) parts.old.interest.entries) }
+        ≡ map (with_report request.step outcome.picked) parts.old.interest.entries) }
     ensures kept { IfOk result (λ outcome. IsKept args.kept outcome) }
     ensures last { OnErr result (NothingRefusesCall parts.old args.pid.0 (wait_call args)) }
     ensures err { OnErr result (parts.new ≡ parts.old) }
@@ -51,32 +50,27 @@ pub fn epoll_wait(
     };
     parts.tables.known();
     let chosen = choose(parts, &dating.dates, instance, args.max)?;
-    parts.wait_with(stamp.step, stamp.caller, args, instance, &chosen)
+    parts.wait_with(request.step, request.caller, args, instance, &chosen)
 }
 
 /// A parked caller asks whether it may go on: EINVAL if it is not parked, `Still` if it isn't marked. A marked
 /// one gets at most as many reports as it asked for and is no longer parked; if nothing is reportable, it gets
-/// none at its deadline, and before that loses its mark and stays parked. `kept`: a second record of it is asked for.
-/// A refusal and an `Err`, which is want of memory, leave the parts. An `Err` comes only of a caller that is parked.
-pub fn resume(
-    parts: &mut Parts,
-    stamp: Stamp,
-    dating: &Dating,
-    kept: bool,
-) -> Result<Outcome, AllocError>
-    requires exact { IsExact stamp.step parts.old dating.now }
+/// none at its deadline, and before that loses its mark and stays parked. A refusal and an `Err`, which is want of
+/// memory, leave the parts. An `Err` comes only of a caller that is parked.
+pub fn resume(parts: &mut Parts, request: Request, dating: &Dating) -> Result<Outcome, AllocError>
+    requires exact { IsExact request.step parts.old dating.now }
     ensures ok { IfOk result
-        (λ outcome. DoesEvent stamp.step stamp.caller.0 Resume outcome parts.old parts.new) }
+        (λ outcome. DoesEvent request.step request.caller.0 Resume outcome parts.old parts.new) }
     ensures leaves { IfOk result (λ outcome. LeavesFiles outcome.raising parts.old parts.new) }
     ensures ids { parts.new.interest.keys ≡ parts.old.interest.keys }
     ensures entries { IfOk result
         (λ outcome. parts.new.interest.entries
-        ≡ map (with_report stamp.step outcome.picked) parts.old.interest.entries) }
-    ensures kept { IfOk result (λ outcome. IsKept kept outcome) }
-    ensures last { OnErr result (NothingRefuses parts.old stamp.caller.0 Resume) }
+        ≡ map (with_report request.step outcome.picked) parts.old.interest.entries) }
+    ensures kept { IfOk result (λ outcome. IsKept request.kept outcome) }
+    ensures last { OnErr result (NothingRefuses parts.old request.caller.0 Resume) }
     ensures err { OnErr result (parts.new ≡ parts.old) }
 {
-    let Some(waiter) = parts.waiters.waiter(stamp.caller) else {
+    let Some(waiter) = parts.waiters.waiter(request.caller) else {
         return Ok(Outcome::refused(parts.alloc, Errno::Einval));
     };
     if !waiter.marked {
@@ -84,5 +78,5 @@ pub fn resume(
     }
     parts.tables.known();
     let chosen = choose(parts, &dating.dates, waiter.instance, waiter.max)?;
-    parts.resume_with(stamp.step, stamp.caller, waiter, &chosen, kept)
+    parts.resume_with(request.step, request.caller, waiter, &chosen, request.kept)
 }

@@ -1,4 +1,4 @@
-use Rattle.std.proofs.Common.{◌≡◌, ℤ, of_z, refl, rules, subst, sym, to_z, w32}
+use Rattle.std.proofs.Common.{ℤ, of_z, refl, rules, subst, sym, to_z, w32}
 use Rattle.std.proofs.lemmas.Int.{to_z-of_z}
 use Rattle.std.proofs.lemmas.Result.{IfOk-weaker, on_err_weaker}
 use mir.Val.{SFits}

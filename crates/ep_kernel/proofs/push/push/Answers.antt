@@ -10,7 +10,7 @@ use Rattle.ep_kernel.proofs.ComesLemmas.{gains_in}
 use Rattle.ep_kernel.proofs.PushLemmas.{have_still}
 use Rattle.ep_kernel.proofs.push.push.Goals as goal
 use Rattle.ep_kernel.proofs.push.push.Goals.{After-push_passing}
-use Rattle.ep_ready.specs.ReadyLists.{entry_id}
+use Rattle.ep_rings.specs.KeyWalk.{entry_id}
 
 passed : (c : After-push_passing) → Each (Gains (λ k. passes_found (entry_under c.args.parts.now.interest (entry_id k)))) c.args.beside.now c.push_passing.new.beside
 passed c = rw (← c.parts.view_is) c.push_passing.ensures

@@ -7,7 +7,7 @@ use Rattle.ep_kernel.proofs.BesideLemmas.{each_map, each_start}
 use Rattle.ep_kernel.proofs.PushLemmas.{gains_none, gains_same}
 use Rattle.ep_kernel.proofs.push.push_above.Goals as goal
 use Rattle.ep_machine.specs.Objects.{Object, is_instance, plain}
-use Rattle.ep_ready.specs.ReadyLists.{entry_id}
+use Rattle.ep_rings.specs.KeyWalk.{entry_id}
 
 pub returns-then-is_instance : goal.returns-then-is_instance
 returns-then-is_instance c =

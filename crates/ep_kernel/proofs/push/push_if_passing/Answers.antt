@@ -4,7 +4,7 @@ use Rattle.ep_kernel.proofs.BesideLemmas.{both_map, each_map, each_start}
 use Rattle.ep_kernel.proofs.PushLemmas.{gains_if, gains_not, placed}
 use Rattle.ep_kernel.specs.Push.{passes_found}
 use Rattle.ep_kernel.proofs.push.push_if_passing.Goals as goal
-use Rattle.ep_ready.specs.ReadyLists.{entry_id}
+use Rattle.ep_rings.specs.KeyWalk.{entry_id}
 
 pub join-requires : goal.join-requires
 join-requires c = both_map (λ l have. placed c.args.interest.now l c.args.id passes_found refl have (sym c.passes.ensures ∙ c.if-passes.true)) c.requires

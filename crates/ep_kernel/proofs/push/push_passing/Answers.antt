@@ -7,7 +7,7 @@ use Rattle.ep_kernel.specs.Push.{Gains, passes_found}
 use Rattle.ep_kernel.proofs.BesideLemmas.{both_then, each_map, each_start, each_then}
 use Rattle.ep_kernel.proofs.PushLemmas.{gains_next, gains_none, gains_same, have_still, passing_only}
 use Rattle.ep_kernel.proofs.push.push_passing.Goals as goal
-use Rattle.ep_ready.specs.ReadyLists.{entry_id}
+use Rattle.ep_rings.specs.KeyWalk.{entry_id}
 
 abbrev first : EntryId
 first = record { 0 = 0 }

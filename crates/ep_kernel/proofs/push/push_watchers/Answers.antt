@@ -5,7 +5,7 @@ use Rattle.ep_kernel.proofs.BesideLemmas.{both_then, each_map, each_start, each_
 use Rattle.ep_kernel.proofs.PushLemmas.{GainsOver, have_still, over_all, over_first, over_more}
 use Rattle.ep_kernel.proofs.push.push_watchers.Goals as goal
 use Rattle.ep_kernel.specs.Beside.{Each}
-use Rattle.ep_ready.specs.ReadyLists.{entry_id}
+use Rattle.ep_rings.specs.KeyWalk.{entry_id}
 
 pub loop-id-init : goal.loop-id-init
 loop-id-init c =

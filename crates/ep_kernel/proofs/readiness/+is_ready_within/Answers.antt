@@ -1,5 +1,7 @@
 use Rattle.std.proofs.Common.{◌≡◌, ◌<◌, ◌-◌, ◌∙◌, ◌∷◌, ◌||◌, ℕ, Bool, IsSome, List, Option, Some, arith, ap, false, inl, refl, subst, sym, true}
 use Rattle.std.specs.List.{list_any}
+use Rattle.ep_facts.proofs.NatFacts.{same_nat}
+use Rattle.ep_facts.proofs.BoolFacts.{or_left}
 use Rattle.ep_calls.specs.Parking.{ready_key}
 use Rattle.ep_calls.specs.Parts.{Parts}
 use Rattle.ep_interest.specs.Registrations.{IsSound, entry_under}
@@ -12,7 +14,6 @@ use Rattle.ep_kernel.specs.Asked.{Knows}
 use Rattle.ep_kernel.specs.declared.asked.Asked.{Asked}
 use Rattle.ep_kernel.specs.Listed.{key_shows}
 use Rattle.ep_kernel.specs.Readiness.{Prunes, nested_found}
-use Rattle.ep_law.proofs.TestLemmas.{or_left, same_nat}
 use Rattle.ep_law.specs.Laws.{Member}
 use Rattle.ep_machine.specs.Lists.{is_among}
 use Rattle.ep_machine.specs.Watches.{is_legal}

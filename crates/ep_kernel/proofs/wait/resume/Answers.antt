@@ -1,12 +1,13 @@
 use Rattle.ep_alarms.proofs.ChangesLemmas.{nowhere_leaves}
 use Rattle.std.proofs.Common.{◌≡◌, ◌∙◌, ℤ, Some, true, SFits, ap, find, refl, rules, subst, sym, w32}
 use Rattle.std.proofs.lemmas.Int.{to_z-of_z}
+use Rattle.ep_facts.proofs.BoolFacts.{from_not}
 use Rattle.ep_base.specs.declared.answer.Answer.TheVariants.{Refused, Still}
 use Rattle.ep_base.specs.declared.call.Event.TheVariants.{Resume}
 use Rattle.ep_base.specs.declared.errno.Errno.TheVariants.{Einval}
 use Rattle.ep_calls.proofs.OutcomeLemmas.{goes_told}
 use Rattle.ep_calls.proofs.ParkLemmas.{found_all}
-use Rattle.ep_calls.proofs.ResumeLemmas.{goes_still, goes_unparked, is_off}
+use Rattle.ep_calls.proofs.ResumeLemmas.{goes_still, goes_unparked}
 use Rattle.ep_calls.proofs.WaitLemmas.{asked_some, resume_does}
 use Rattle.ep_calls.specs.Parts.{Parts}
 use Rattle.ep_calls.specs.Stands.{IsPlaced}
@@ -49,7 +50,7 @@ returns-then-not-waiter-clause-ok c =
     let fair : State → Type 0 = λ s. AreFair s p c.args.beside.now.lists in
     rw (← c.parts.view_is) (resume_does fair c.args.step caller c.settled.result p p o.raising refl refl refl (λ s at sound quiet legal stands u.
     goes_told (refusals p.tables.limits s caller Resume) (resume s caller) s c.settled.result.answer Still c.settled.result.picked p o.answer o.picked
-    (goes_still p.graph p.tables p.interest p.parked p.clock caller p.tables.limits s stands c.in-Some.waiter (sym c.in-Some.ensures) (is_off c.in-Some.waiter.marked c.if-not-waiter.true))))
+    (goes_still p.graph p.tables p.interest p.parked p.clock caller p.tables.limits s stands c.in-Some.waiter (sym c.in-Some.ensures) (from_not c.in-Some.waiter.marked c.if-not-waiter.true))))
 
 pub most-requires : goal.most-requires
 most-requires c =

@@ -26,31 +26,31 @@ returns-in_default c =
     let call = c.args.call.now in
     let on_files : IsFileCall call = search rules in
     record {
-      ok = IfOk-weaker c.file_call.result _ _ (λ outcome h. h c.args.stamp.step c.args.stamp.caller.0) c.file_call.ensures.ok;
+      ok = IfOk-weaker c.file_call.result _ _ (λ outcome h. h c.args.request.step c.args.request.caller.0) c.file_call.ensures.ok;
       kept = c.file_call.ensures.kept;
       spared = c.file_call.ensures.spared;
       tables = IfOk-weaker c.file_call.result _ _ (λ outcome did. as_files c.args.pid.0 call outcome.answer p q on_files did) c.file_call.ensures.tables;
       clock = c.file_call.ensures.clock;
       timers = c.file_call.ensures.room;
-      follows = IfOk-weaker c.file_call.result _ _ (λ outcome none. same_follow c.args.stamp.step (CallOf c.args.pid call) outcome.picked p q c.args.dating.now c.requires.exact c.file_call.ensures.interest none (files_unnamed p c.args.pid call on_files)) c.file_call.ensures.picked;
+      follows = IfOk-weaker c.file_call.result _ _ (λ outcome none. same_follow c.args.request.step (CallOf c.args.pid call) outcome.answer outcome.picked p q c.args.dating.now c.requires.exact c.file_call.ensures.interest none (λ done. files_unnamed p c.args.pid call on_files)) c.file_call.ensures.picked;
       last = c.file_call.ensures.last;
       err = c.file_call.ensures.err;
       grows = on_err_weaker c.file_call.result (λ none. grows_none c.args.dating.now c.args.dating.now refl) c.file_call.ensures.err;
     }
 
 pub returns-in-EpollWait-clause-kept : goal.returns-in-EpollWait-clause-kept
-returns-in-EpollWait-clause-kept c = IfOk-weaker c.epoll_wait.result _ _ (λ outcome h. any_call c.args.call.now c.args.kept outcome h) c.epoll_wait.ensures.kept
+returns-in-EpollWait-clause-kept c = IfOk-weaker c.epoll_wait.result _ _ (λ outcome h. any_call c.args.call.now c.args.request.kept outcome h) c.epoll_wait.ensures.kept
 
 pub returns-in-EpollCtl-clause-kept : goal.returns-in-EpollCtl-clause-kept
-returns-in-EpollCtl-clause-kept c = IfOk-weaker c.epoll_ctl.result _ _ (λ outcome h. subst (λ (call : Call). KeepsCall call c.args.kept outcome) (sym c.in-EpollCtl.is) tt) c.epoll_ctl.ensures.ok
+returns-in-EpollCtl-clause-kept c = IfOk-weaker c.epoll_ctl.result _ _ (λ outcome h. subst (λ (call : Call). KeepsCall call c.args.request.kept outcome) (sym c.in-EpollCtl.is) tt) c.epoll_ctl.ensures.ok
 
 pub returns-in-EpollCtl-clause-ok : goal.returns-in-EpollCtl-clause-ok
 returns-in-EpollCtl-clause-ok c =
     let x = c.in-EpollCtl in
     let fits : SFits w32 x.op = search rules in
     IfOk-weaker c.epoll_ctl.result _ _ (λ outcome h.
-    let P : Call → Type 0 = λ call. DoesCall c.args.stamp.step c.args.stamp.caller.0 c.args.pid.0 call outcome c.args.parts.now c.epoll_ctl.new.parts in
-    subst P (sym x.is) (subst (λ (z : ℤ). P (EpollCtl x.epfd z x.fd x.mask x.tag)) (to_z-of_z w32 x.op fits) (h c.args.stamp.step c.args.stamp.caller.0))) c.epoll_ctl.ensures.ok
+    let P : Call → Type 0 = λ call. DoesCall c.args.request.step c.args.request.caller.0 c.args.pid.0 call outcome c.args.parts.now c.epoll_ctl.new.parts in
+    subst P (sym x.is) (subst (λ (z : ℤ). P (EpollCtl x.epfd z x.fd x.mask x.tag)) (to_z-of_z w32 x.op fits) (h c.args.request.step c.args.request.caller.0))) c.epoll_ctl.ensures.ok
 
 pub returns-in-EpollWait-clause-follows : goal.returns-in-EpollWait-clause-follows
 returns-in-EpollWait-clause-follows c =
@@ -58,8 +58,8 @@ returns-in-EpollWait-clause-follows c =
     let q = c.epoll_wait.new.parts in
     let d = c.args.dating.now in
     let call = c.args.call.now in
-    IfOk-weaker c.epoll_wait.result _ _ (λ outcome entries. reports_follow c.args.stamp.step (CallOf c.args.pid call) outcome.picked p q d c.requires.exact c.epoll_wait.ensures.ids entries
-    (subst (λ (k : Call). (x : Entry) → IsNamed p.tables (CallOf c.args.pid k) x → ⊥) (sym c.in-EpollWait.is) (λ x named. named))) c.epoll_wait.ensures.entries
+    IfOk-weaker c.epoll_wait.result _ _ (λ outcome entries. reports_follow c.args.request.step (CallOf c.args.pid call) outcome.answer outcome.picked p q d c.requires.exact c.epoll_wait.ensures.ids entries
+    (λ done. subst (λ (k : Call). (x : Entry) → IsNamed p.tables (CallOf c.args.pid k) x → ⊥) (sym c.in-EpollWait.is) (λ x named. named))) c.epoll_wait.ensures.entries
 
 pub returns-in-EpollWait-clause-grows : goal.returns-in-EpollWait-clause-grows
 returns-in-EpollWait-clause-grows c = on_err_weaker c.epoll_wait.result (λ same. grows_none c.args.dating.now c.args.dating.now refl) c.epoll_wait.ensures.err
@@ -71,9 +71,9 @@ returns-in-EpollCtl-clause-follows c =
     let q = c.epoll_ctl.new.parts in
     let d = c.args.dating.now in
     let fits : SFits w32 x.op = search rules in
-    let step = c.args.stamp.step in
+    let step = c.args.request.step in
     IfOk-weaker c.epoll_ctl.result _ _ (λ outcome h.
-    let P : Call → Type 0 = λ call. Follows step (CallOf c.args.pid call) outcome.picked p d q c.epoll_ctl.new.dating in
+    let P : Call → Type 0 = λ call. Follows step (CallOf c.args.pid call) outcome.answer outcome.picked p d q c.epoll_ctl.new.dating in
     subst P (sym x.is) (subst (λ (z : ℤ). P (EpollCtl x.epfd z x.fd x.mask x.tag)) (to_z-of_z w32 x.op fits) (h step c.requires.step c.requires.exact))) c.epoll_ctl.ensures.follows
 
 pub returns-in-EpollCtl-clause-last : goal.returns-in-EpollCtl-clause-last

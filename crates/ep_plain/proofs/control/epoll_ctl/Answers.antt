@@ -4,7 +4,6 @@ use Rattle.std.proofs.lemmas.Bool.{false≢true}
 use Rattle.ep_base.specs.declared.call.Event.TheVariants.{Call as CallOf}
 use Rattle.ep_base.specs.declared.ids.EntryId.{EntryId}
 use Rattle.ep_calls.specs.Control.{control_call}
-use Rattle.ep_calls.specs.Parts.{Parts}
 use Rattle.ep_calls.specs.declared.control.Plan.{Plan}
 use Rattle.ep_dates.specs.Dates.{Dates}
 use Rattle.ep_interest.specs.declared.entry.Entry.{Entry}
@@ -20,7 +19,8 @@ pub returns-in-Err-clause-follows : goal.returns-in-Err-clause-follows
 returns-in-Err-clause-follows c = λ n counted exact.
     let args = c.args.args in
     let p = c.args.parts.now in
-    refused_follow n (CallOf c.args.pid (control_call args)) c.in-Err.refused.picked p p c.args.dating.now exact refl c.in-Err.ensures.picked c.find_named-dating.result (c.find_named-dating.ensures args.op args.mask args.tag)
+    let refused = c.in-Err.refused in
+    refused_follow n (CallOf c.args.pid (control_call args)) refused.answer refused.picked p p c.args.dating.now exact refl c.in-Err.ensures.picked c.in-Err.ensures.refused
 
 pub drop_deleted-requires : goal.drop_deleted-requires
 drop_deleted-requires c =
@@ -55,9 +55,9 @@ returns-clause-follows c = λ n counted exact.
     let e = c.make_room.new.dating in
     let x = c.in_ok-outcome in
     let plans = c.in-Ok.ensures.ok in
-    let f : c.drop_deleted.new.dates ≡ without_deleted (deleted_in plan.operation plan.found p.interest) q.interest e.dates =
-    c.drop_deleted.ensures ∙ (ap (λ (o : Option (EntryId × Entry)). without_deleted o c.parts.inside.interest e.dates) c.find_deleted-deleted.ensures ∙ ap (λ (r : Parts). without_deleted (deleted_in plan.operation plan.found p.interest) r.interest e.dates) c.parts.view_is) in
-    subst (λ (g : Dates). Follows n (CallOf c.args.pid (control_call args)) x.outcome.picked p d q (record e { dates = g; choice = record e.choice { lost = c.note_deleted.new.lost } })) (sym f)
+    let f : c.drop_deleted.new.dates ≡ without_deleted (deleted_in plan.operation plan.found p.interest) e.dates =
+    c.drop_deleted.ensures ∙ ap (λ (o : Option (EntryId × Entry)). without_deleted o e.dates) c.find_deleted-deleted.ensures in
+    subst (λ (g : Dates). Follows n (CallOf c.args.pid (control_call args)) x.outcome.answer x.outcome.picked p d q (record e { dates = g; choice = record e.choice { lost = c.note_deleted.new.lost } })) (sym f)
     (control_follow n counted c.args.pid args plan x.outcome p q d e exact (grows_altered d e _ c.make_room.ensures.grows) c.know.ensures.tables c.know.ensures.interest c.know-2.ensures.interest
-    (record { names = plans.names; code = plans.code; accepted = plans.accepted; found = plans.found }) x.ensures.controls x.ensures.added x.ensures.room
+    (record { names = plans.names; code = plans.code; accepted = plans.accepted; found = plans.found }) x.ensures.controls x.ensures.added x.ensures.room x.ensures.deletes
     (λ add none has. c.make_room.ensures.room add none has) (c.make_room.ensures.altered ∙ ap (λ (k : EntryId). Some k) c.key_of.ensures) c.note_deleted.new.lost c.note_deleted.ensures)

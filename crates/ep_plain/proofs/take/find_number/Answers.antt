@@ -3,6 +3,7 @@ use Rattle.std.specs.Option.{option_map}
 use Rattle.std.proofs.lemmas.Bool.{false≢true}
 use Rattle.std.proofs.lemmas.Bool.Decides.{nat_tests}
 use Rattle.std.proofs.lemmas.List.Elements.{All-cons, All-nil}
+use Rattle.ep_facts.proofs.NatFacts.{same_test}
 use Rattle.ep_calls.proofs.EntryLemmas.{found_by, holds_under, number_of}
 use Rattle.ep_calls.specs.Parts.{Parts}
 use Rattle.ep_calls.specs.Readiness.{entry_bits, readiness}
@@ -12,15 +13,14 @@ use Rattle.ep_calls.specs.declared.wait.Reportable.{Reportable}
 use Rattle.ep_dates.specs.Dates.{event_at, id_at}
 use Rattle.ep_interest.specs.Registrations.{IsSound, entry_under, number_under, numbered}
 use Rattle.ep_interest.specs.declared.entry.Entry.{Entry}
-use Rattle.ep_law.proofs.TestLemmas.{same_test}
 use Rattle.ep_plain.proofs.TakeLemmas.{absent_none, other_none, some_numbered, undated_none}
 use Rattle.ep_plain.proofs.take.find_number.Goals as goal
 
-pub returns-then-since-eq0-clause-entry : goal.returns-then-since-eq0-clause-entry
-returns-then-since-eq0-clause-entry c =
+pub returns-then-not-is_dated-clause-entry : goal.returns-then-not-is_dated-clause-entry
+returns-then-not-is_dated-clause-entry c =
     let p = c.args.parts.now in
     let sound = subst (λ (q : Parts). IsSound q.interest) c.parts.view_is c.known-2.ensures in
-    undated_none p c.args.dates.now c.args.instance sound c.requires.shown c.requires.kept c.args.number (sym c.since.ensures ∙ (sym c.since-2.view_is ∙ c.if-since-eq0.true))
+    undated_none p c.args.dates.now c.args.instance sound c.requires.shown c.requires.kept c.args.number (sym c.is_dated.ensures ∙ c.if-not-is_dated.true)
 
 pub returns-in_err-entry-clause-entry : goal.returns-in_err-entry-clause-entry
 returns-in_err-entry-clause-entry c =
@@ -62,7 +62,7 @@ returns-clause-entry c =
     let sound = subst (λ (q : Parts). IsSound q.interest) c.parts.view_is c.known-2.ensures in
     let at : entry_under p.interest (id_at c.args.dates.now.ids k) ≡ Some x = ap (entry_under p.interest) (sym c.id-id.ensures) ∙ subst (λ (q : Parts). entry_under q.interest c.id-id.result ≡ Some x) c.parts.view_is (sym c.in_ok-entry.ensures) in
     let of : x.instance.0 ≡ c.args.instance.0 = grind (arith, nat_tests, c.ne.ensures, c.if-ne.false) in
-    let after : nat_lt 0 (event_at c.args.dates.now.since k) ≡ true = grind (arith, nat_tests, c.since.ensures, c.since-2.view_is, c.if-since-eq0.false) in
+    let after : nat_lt 0 (event_at c.args.dates.now.since k) ≡ true = sym c.is_dated.ensures ∙ c.if-not-is_dated.false in
     ap (λ (y : Entry). Some y) c.reportable.ensures.entry ∙ some_numbered p c.args.dates.now c.args.instance sound c.requires.shown c.requires.kept k x at (sym c.found.view_is ∙ (c.if-found-number.false ∙ c.number.view_is)) of after
 
 pub returns-clause-keyed : goal.returns-clause-keyed

@@ -14,73 +14,73 @@ use Rattle.ep_plain.proofs.RoomLemmas.{grows_none}
 use Rattle.ep_plain.proofs.these.act_these.Goals as goal
 use Rattle.ep_plain.specs.Exact.{IsNamed}
 
-calls : (c : goal.After-wait_these) → CallsWait c.args.parts.now c.args.stamp.caller.0 c.args.event.now c.in-Some-Call.args c.in-Some-Call.instance
-calls c = subst (λ (w : Waiting). AsksFor c.args.parts.now c.args.stamp.caller.0 c.args.event.now (Some w)) c.in-Some-Call.field-0-is c.in-Some-Call.ensures
+calls : (c : goal.After-wait_these) → CallsWait c.args.parts.now c.args.request.caller.0 c.args.event.now c.in-Some-Call.args c.in-Some-Call.instance
+calls c = subst (λ (w : Waiting). AsksFor c.args.parts.now c.args.request.caller.0 c.args.event.now (Some w)) c.in-Some-Call.field-0-is c.in-Some-Call.ensures
 
-resumes : (c : goal.After-resume_these) → Resumes c.args.parts.now c.args.stamp.caller.0 c.args.event.now c.in-Some-Parked.waiter
-resumes c = subst (λ (w : Waiting). AsksFor c.args.parts.now c.args.stamp.caller.0 c.args.event.now (Some w)) c.in-Some-Parked.field-0-is c.in-Some-Parked.ensures
+resumes : (c : goal.After-resume_these) → Resumes c.args.parts.now c.args.request.caller.0 c.args.event.now c.in-Some-Parked.waiter
+resumes c = subst (λ (w : Waiting). AsksFor c.args.parts.now c.args.request.caller.0 c.args.event.now (Some w)) c.in-Some-Parked.field-0-is c.in-Some-Parked.ensures
 
 pub returns-in-Some-Call-clause-ok : goal.returns-in-Some-Call-clause-ok
 returns-in-Some-Call-clause-ok c =
     let x = c.in-Some-Call in
-    IfOk-weaker c.wait_these.result _ _ (λ outcome does. call_does c.args.parts.now c.args.stamp.step c.args.stamp.caller.0 x.args x.instance c.args.picks.now c.args.event.now outcome c.wait_these.new.parts (calls c) does) c.wait_these.ensures.ok
+    IfOk-weaker c.wait_these.result _ _ (λ outcome does. call_does c.args.parts.now c.args.request.step c.args.request.caller.0 x.args x.instance c.args.picks.now c.args.event.now outcome c.wait_these.new.parts (calls c) does) c.wait_these.ensures.ok
 
 pub returns-in-Some-Call-clause-picked : goal.returns-in-Some-Call-clause-picked
 returns-in-Some-Call-clause-picked c =
     let x = c.in-Some-Call in
-    IfOk-weaker c.wait_these.result _ _ (λ outcome told. call_picks c.args.parts.now c.args.stamp.step c.args.stamp.caller.0 x.args x.instance c.args.picks.now c.args.event.now outcome.picked (calls c) told) c.wait_these.ensures.picked
+    IfOk-weaker c.wait_these.result _ _ (λ outcome told. call_picks c.args.parts.now c.args.request.step c.args.request.caller.0 x.args x.instance c.args.picks.now c.args.event.now outcome.picked (calls c) told) c.wait_these.ensures.picked
 
 pub returns-in-Some-Parked-clause-ok : goal.returns-in-Some-Parked-clause-ok
 returns-in-Some-Parked-clause-ok c =
     let x = c.in-Some-Parked in
-    IfOk-weaker c.resume_these.result _ _ (λ outcome does. resume_does c.args.parts.now c.args.stamp.step c.args.stamp.caller.0 c.args.event.now x.waiter c.args.picks.now (resumes c) outcome c.resume_these.new.parts does) c.resume_these.ensures.ok
+    IfOk-weaker c.resume_these.result _ _ (λ outcome does. resume_does c.args.parts.now c.args.request.step c.args.request.caller.0 c.args.event.now x.waiter c.args.picks.now (resumes c) outcome c.resume_these.new.parts does) c.resume_these.ensures.ok
 
 pub returns-in-Some-Parked-clause-picked : goal.returns-in-Some-Parked-clause-picked
 returns-in-Some-Parked-clause-picked c =
     let x = c.in-Some-Parked in
-    IfOk-weaker c.resume_these.result _ _ (λ outcome told. resume_picks c.args.parts.now c.args.stamp.step c.args.stamp.caller.0 c.args.event.now x.waiter c.args.picks.now (resumes c) outcome.picked told) c.resume_these.ensures.picked
+    IfOk-weaker c.resume_these.result _ _ (λ outcome told. resume_picks c.args.parts.now c.args.request.step c.args.request.caller.0 c.args.event.now x.waiter c.args.picks.now (resumes c) outcome.picked told) c.resume_these.ensures.picked
 
 pub returns-in-None-clause-picked : goal.returns-in-None-clause-picked
 returns-in-None-clause-picked c =
-    IfOk-weaker c.act.result _ _ (λ outcome does. none_picks c.args.parts.now c.act.new.parts c.args.stamp.step c.args.stamp.caller.0 c.args.event.now c.args.picks.now outcome c.in-None.ensures does) c.act.ensures.ok
+    IfOk-weaker c.act.result _ _ (λ outcome does. none_picks c.args.parts.now c.act.new.parts c.args.request.step c.args.request.caller.0 c.args.event.now c.args.picks.now outcome c.in-None.ensures does) c.act.ensures.ok
 
 pub returns-in-Some-Call-clause-last : goal.returns-in-Some-Call-clause-last
 returns-in-Some-Call-clause-last c =
     let q = c.args.parts.now in
     let x = c.in-Some-Call in
-    let caller = c.args.stamp.caller.0 in
+    let caller = c.args.request.caller.0 in
     let of = calls c in
     on_err_weaker c.wait_these.result (λ none. subst (λ (event : Event). NothingRefuses q caller event) (sym of.is) (past_last q caller x.args.pid (wait_call x.args) of.there of.free none)) c.wait_these.ensures.last
 
 pub returns-in-Some-Call-clause-tables : goal.returns-in-Some-Call-clause-tables
 returns-in-Some-Call-clause-tables c =
     let x = c.in-Some-Call in
-    IfOk-weaker c.wait_these.result _ _ (λ outcome leaves. wait_touches c.args.parts.now c.wait_these.new.parts c.args.stamp.caller.0 c.args.event.now x.args x.instance (calls c) outcome leaves) c.wait_these.ensures.leaves
+    IfOk-weaker c.wait_these.result _ _ (λ outcome leaves. wait_touches c.args.parts.now c.wait_these.new.parts c.args.request.caller.0 c.args.event.now x.args x.instance (calls c) outcome leaves) c.wait_these.ensures.leaves
 
 pub returns-in-Some-Call-clause-clock : goal.returns-in-Some-Call-clause-clock
 returns-in-Some-Call-clause-clock c =
     let x = c.in-Some-Call in
-    IfOk-weaker c.wait_these.result _ _ (λ outcome leaves. wait_moves c.args.parts.now c.wait_these.new.parts c.args.stamp.caller.0 c.args.event.now x.args x.instance (calls c) outcome leaves) c.wait_these.ensures.leaves
+    IfOk-weaker c.wait_these.result _ _ (λ outcome leaves. wait_moves c.args.parts.now c.wait_these.new.parts c.args.request.caller.0 c.args.event.now x.args x.instance (calls c) outcome leaves) c.wait_these.ensures.leaves
 
 pub returns-in-Some-Call-clause-timers : goal.returns-in-Some-Call-clause-timers
 returns-in-Some-Call-clause-timers c none creates =
     let x = c.in-Some-Call in
-    absurd (wait_creates c.args.parts.now c.wait_these.new.parts c.args.stamp.caller.0 c.args.event.now x.args x.instance (calls c) creates)
+    absurd (wait_creates c.args.parts.now c.wait_these.new.parts c.args.request.caller.0 c.args.event.now x.args x.instance (calls c) creates)
 
 pub returns-in-Some-Parked-clause-tables : goal.returns-in-Some-Parked-clause-tables
 returns-in-Some-Parked-clause-tables c =
     let x = c.in-Some-Parked in
-    IfOk-weaker c.resume_these.result _ _ (λ outcome leaves. resume_touches c.args.parts.now c.resume_these.new.parts c.args.stamp.caller.0 c.args.event.now x.waiter (resumes c) outcome leaves) c.resume_these.ensures.leaves
+    IfOk-weaker c.resume_these.result _ _ (λ outcome leaves. resume_touches c.args.parts.now c.resume_these.new.parts c.args.request.caller.0 c.args.event.now x.waiter (resumes c) outcome leaves) c.resume_these.ensures.leaves
 
 pub returns-in-Some-Parked-clause-clock : goal.returns-in-Some-Parked-clause-clock
 returns-in-Some-Parked-clause-clock c =
     let x = c.in-Some-Parked in
-    IfOk-weaker c.resume_these.result _ _ (λ outcome leaves. resume_moves c.args.parts.now c.resume_these.new.parts c.args.stamp.caller.0 c.args.event.now x.waiter (resumes c) outcome leaves) c.resume_these.ensures.leaves
+    IfOk-weaker c.resume_these.result _ _ (λ outcome leaves. resume_moves c.args.parts.now c.resume_these.new.parts c.args.request.caller.0 c.args.event.now x.waiter (resumes c) outcome leaves) c.resume_these.ensures.leaves
 
 pub returns-in-Some-Parked-clause-timers : goal.returns-in-Some-Parked-clause-timers
 returns-in-Some-Parked-clause-timers c none creates =
     let x = c.in-Some-Parked in
-    absurd (resume_creates c.args.parts.now c.resume_these.new.parts c.args.stamp.caller.0 c.args.event.now x.waiter (resumes c) creates)
+    absurd (resume_creates c.args.parts.now c.resume_these.new.parts c.args.request.caller.0 c.args.event.now x.waiter (resumes c) creates)
 
 -- the dates
 pub returns-in-Some-Call-clause-follows : goal.returns-in-Some-Call-clause-follows
@@ -88,7 +88,7 @@ returns-in-Some-Call-clause-follows c =
     let p = c.args.parts.now in
     let q = c.wait_these.new.parts in
     let unnamed = subst (λ (event : Event). (x : Entry) → IsNamed p.tables event x → ⊥) (sym (calls c).is) (λ x named. named) in
-    IfOk-weaker c.wait_these.result _ _ (λ outcome entries. reports_follow c.args.stamp.step c.args.event.now outcome.picked p q c.args.dating.now c.requires.exact c.wait_these.ensures.ids entries unnamed) c.wait_these.ensures.entries
+    IfOk-weaker c.wait_these.result _ _ (λ outcome entries. reports_follow c.args.request.step c.args.event.now outcome.answer outcome.picked p q c.args.dating.now c.requires.exact c.wait_these.ensures.ids entries (λ done. unnamed)) c.wait_these.ensures.entries
 
 pub returns-in-Some-Call-clause-grows : goal.returns-in-Some-Call-clause-grows
 returns-in-Some-Call-clause-grows c = on_err_weaker c.wait_these.result (λ same. grows_none c.args.dating.now c.args.dating.now refl) c.wait_these.ensures.err
@@ -98,7 +98,7 @@ returns-in-Some-Parked-clause-follows c =
     let p = c.args.parts.now in
     let q = c.resume_these.new.parts in
     let unnamed = subst (λ (event : Event). (x : Entry) → IsNamed p.tables event x → ⊥) (sym (resumes c).is) (λ x named. named) in
-    IfOk-weaker c.resume_these.result _ _ (λ outcome entries. reports_follow c.args.stamp.step c.args.event.now outcome.picked p q c.args.dating.now c.requires.exact c.resume_these.ensures.ids entries unnamed) c.resume_these.ensures.entries
+    IfOk-weaker c.resume_these.result _ _ (λ outcome entries. reports_follow c.args.request.step c.args.event.now outcome.answer outcome.picked p q c.args.dating.now c.requires.exact c.resume_these.ensures.ids entries (λ done. unnamed)) c.resume_these.ensures.entries
 
 pub returns-in-Some-Parked-clause-grows : goal.returns-in-Some-Parked-clause-grows
 returns-in-Some-Parked-clause-grows c = on_err_weaker c.resume_these.result (λ same. grows_none c.args.dating.now c.args.dating.now refl) c.resume_these.ensures.err

@@ -36,7 +36,7 @@ taken c s stands may =
     let w = c.args.waiter in
     let most = number_in w.max in
     let ks = c.args.picks.now in
-    let caller = c.args.stamp.caller.0 in
+    let caller = c.args.request.caller.0 in
     let held = subst (λ (q : Parts). find (is_caller caller) q.parked ≡ Some (parked caller w)) (sym c.parts.view_is) c.requires.parked in
     let placed = found_all (IsPlaced k.tables.keys) caller k.waiters (parked caller w) held c.parts.invariant.placed in
     taken_numbers k.tables k.clock k.interest s w.instance (subst (λ (q : Parts). StandFor q s) (sym c.parts.view_is) stands) c.parts.invariant.linked c.known.ensures placed.instance most c.deref.result.now ks
@@ -48,10 +48,10 @@ pub returns-clause-ok : goal.returns-clause-ok
 returns-clause-ok c =
     let q = c.args.parts.now in
     let w = c.args.waiter in
-    let caller = c.args.stamp.caller.0 in
+    let caller = c.args.request.caller.0 in
     let most = number_in w.max in
     IfOk-weaker c.resume_with.result _ _ (λ (outcome : Outcome) does.
-    does_where (IsPick q.tables w.instance most c.deref.result.now) (MayPick q w.instance most c.args.picks.now) c.args.stamp.step (λ s. refusals q.tables.limits s caller Resume) (λ s picked. change q.tables.limits s caller Resume picked)
+    does_where (IsPick q.tables w.instance most c.deref.result.now) (MayPick q w.instance most c.args.picks.now) c.args.request.step (λ s. refusals q.tables.limits s caller Resume) (λ s picked. change q.tables.limits s caller Resume picked)
     outcome q c.resume_with.new.self does
     (λ s at sound quiet legal stands may. ap (λ (ks : List ℕ). is_pick s (number_at q.tables.keys w.instance) most ks) (taken c s stands may) ∙ may)) c.resume_with.ensures.ok
 
@@ -59,7 +59,7 @@ pub returns-clause-picked : goal.returns-clause-picked
 returns-clause-picked c = IfOk-weaker c.resume_with.result _ _ (λ (outcome : Outcome) told s sound legal stands may. told ∙ taken c s stands may) c.resume_with.ensures.picked
 
 pub returns-in_err-chosen-clause-last : goal.returns-in_err-chosen-clause-last
-returns-in_err-chosen-clause-last c = on_err c.from_residual.result (resume_last c.args.parts.now c.args.stamp.caller.0 c.args.waiter c.requires.parked)
+returns-in_err-chosen-clause-last c = on_err c.from_residual.result (resume_last c.args.parts.now c.args.request.caller.0 c.args.waiter c.requires.parked)
 
 pub returns-clause-leaves : goal.returns-clause-leaves
 returns-clause-leaves c = IfOk-weaker c.resume_with.result _ _ (λ (outcome : Outcome) clock. record { files = c.resume_with.ensures.files; clock = clock }) c.resume_with.ensures.clock

@@ -46,7 +46,7 @@ returns-clause-ok c =
     let instance = c.args.instance in
     let most = number_in x.max in
     IfOk-weaker c.wait_with.result _ _ (λ (outcome : Outcome) does.
-    does_where (IsPick q.tables instance most c.deref.result.now) (MayPick q instance most c.args.picks.now) c.args.stamp.step (λ s. call_refusals q.tables.limits s x.pid.0 (wait_call x)) (λ s picked. call_change q.tables.limits s c.args.stamp.caller.0 x.pid.0 (wait_call x) picked)
+    does_where (IsPick q.tables instance most c.deref.result.now) (MayPick q instance most c.args.picks.now) c.args.request.step (λ s. call_refusals q.tables.limits s x.pid.0 (wait_call x)) (λ s picked. call_change q.tables.limits s c.args.request.caller.0 x.pid.0 (wait_call x) picked)
     outcome q c.wait_with.new.self does
     (λ s at sound quiet legal stands may. ap (λ (ks : List ℕ). is_pick s (number_at q.tables.keys instance) most ks) (taken c s stands may) ∙ may)) c.wait_with.ensures.ok
 

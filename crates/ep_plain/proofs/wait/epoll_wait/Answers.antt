@@ -33,11 +33,11 @@ returns-clause-ok c =
     let chooses = subst (λ (xs : List Reportable). IsChosen k.tables k.clock k.interest instance (number_in x.max) xs) (sym c.deref.ensures.value)
     (subst (λ (r : Parts). IsChosen r.tables r.clock r.interest instance (number_in x.max) c.in_ok-chosen.chosen.items) (sym c.parts.view_is)
     (subst (λ (z : ℤ). IsChosen q.tables q.clock q.interest instance (number_in z) c.in_ok-chosen.chosen.items) (to_z-of_z w32 x.max fits) c.in_ok-chosen.ensures)) in
-    let pick : MovesBy c.args.stamp.step p (IsPick p.tables instance (number_in x.max) chosen) = λ s at sound quiet legal stands.
+    let pick : MovesBy c.args.request.step p (IsPick p.tables instance (number_in x.max) chosen) = λ s at sound quiet legal stands.
     chosen_is_pick k.tables k.clock k.interest s instance (number_in x.max) chosen sound stands c.parts.invariant.linked c.known.ensures c.in-Ok.ensures.lives chooses in
     IfOk-weaker c.wait_with.result _ _ (λ (o : Outcome) done.
-    does_all (IsPick q.tables instance (number_in x.max) chosen) c.args.stamp.step (λ s. call_refusals q.tables.limits s x.pid.0 (wait_call x)) (λ s picked. call_change q.tables.limits s c.args.stamp.caller.0 x.pid.0 (wait_call x) picked) o q c.wait_with.new.self
-    done (subst (λ (r : Parts). MovesBy c.args.stamp.step r (IsPick r.tables instance (number_in x.max) chosen)) c.parts.view_is pick))
+    does_all (IsPick q.tables instance (number_in x.max) chosen) c.args.request.step (λ s. call_refusals q.tables.limits s x.pid.0 (wait_call x)) (λ s picked. call_change q.tables.limits s c.args.request.caller.0 x.pid.0 (wait_call x) picked) o q c.wait_with.new.self
+    done (subst (λ (r : Parts). MovesBy c.args.request.step r (IsPick r.tables instance (number_in x.max) chosen)) c.parts.view_is pick))
     c.wait_with.ensures.ok
 
 pub returns-in-Err-clause-leaves : goal.returns-in-Err-clause-leaves
@@ -49,4 +49,4 @@ returns-clause-leaves c = IfOk-weaker c.wait_with.result _ _ (λ (o : Outcome) c
 pub returns-in-Err-clause-entries : goal.returns-in-Err-clause-entries
 returns-in-Err-clause-entries c =
     let xs = c.args.parts.now.interest.entries in
-    sym (ap (λ (ks : List ℕ). map (with_report c.args.stamp.step ks) xs) c.refused.ensures.picked ∙ noted_none c.args.stamp.step xs)
+    sym (ap (λ (ks : List ℕ). map (with_report c.args.request.step ks) xs) c.refused.ensures.picked ∙ noted_none c.args.request.step xs)

@@ -1,6 +1,6 @@
 use Rattle.std.proofs.Common.{refl}
+use Rattle.ep_facts.proofs.OptionFacts.{value_of}
 use Rattle.ep_kernel.proofs.PushLemmas.{gains_one}
-use Rattle.ep_climb.proofs.SetLemmas.{some_of}
 use Rattle.ep_kernel.proofs.beside.Beside.join.Goals as goal
 use Rattle.ep_ready.specs.ReadyLists.{instance_at}
 
@@ -8,8 +8,8 @@ pub returns : goal.returns
 returns c =
     let l = c.args.self.now.lists in
     let h = c.args.self.now.asked.hopes in
-    let placed = some_of (instance_at l c.args.id) c.requires.lists in
-    let hoped = some_of (instance_at h c.args.id) c.requires.hopes in
+    let placed = value_of (instance_at l c.args.id) c.requires.lists in
+    let hoped = value_of (instance_at h c.args.id) c.requires.hopes in
     record {
       alike = record {
         lists = gains_one l c.known.ensures c.args.id placed.0 placed.1 c.push_back.new.self c.push_back.ensures;

@@ -1,4 +1,4 @@
-use Rattle.std.proofs.Common.{◌≡◌, ◌+◌, ◌++◌, [], ◌∷◌, ℕ, List, None, Option, ap, length, ◌∙◌, arith, subst, sym, vec_capacity}
+use Rattle.std.proofs.Common.{◌≡◌, ◌+◌, ◌++◌, [], ◌∷◌, ℕ, List, None, Option, ap, length, ◌∙◌, arith, subst, sym}
 use Rattle.ep_alarms.specs.Alarms.{AreSet}
 use Rattle.ep_base.specs.declared.answer.Answer.{Answer}
 use Rattle.ep_base.specs.declared.ids.DescId.{DescId}
@@ -63,17 +63,17 @@ returns-in_err-outcome-clause-last c room =
     (event_last k.history.items k.parts c.self.invariant.runs.keeps caller c.args.event c.in_err-outcome.ensures.last))
 
 -- where a second record is asked for, there is a copy, or none is needed
-pub into_record-answer-requires : goal.into_record-answer-requires
-into_record-answer-requires c asked none =
+pub put_record-answer-requires-clause-inline : goal.put_record-answer-requires-clause-inline
+put_record-answer-requires-clause-inline c asked none =
     let k = c.self.inside in
     let o = c.in_ok-outcome.outcome in
-    let n : c.len.result + 1 ≡ length k.history.items + 1 = omega (arith, c.len.ensures, c.reserve.ensures.len) in
+    let n : c.len.result + 1 ≡ length k.history.items + 1 = ap (λ (m : ℕ). m + 1) (c.len.ensures.count ∙ ap (λ (rs : List Record). length rs) c.reserve.ensures.items) in
     let does = does_fairly k.history.items k.parts c.act.new.parts k.beside.lists c.self.invariant.runs (c.len.result + 1) c.args.caller.0 c.args.event o n c.in_ok-outcome.ensures.ok in
     inline_event k.parts.tables.limits (next_event c.self.invariant.runs.keeps.state) c.args.caller.0 o c.args.kept asked none c.args.event c.act.new.parts does.goes c.in_ok-outcome.ensures.kept
 
 -- Where marks are set.
 at_step : (c : After-attend-attended) → c.len.result + 1 ≡ length c.self.inside.history.items + 1
-at_step c = omega (arith, c.len.ensures, c.reserve.ensures.len)
+at_step c = ap (λ (m : ℕ). m + 1) (c.len.ensures.count ∙ ap (λ (rs : List Record). length rs) c.reserve.ensures.items)
 
 -- what is attended
 attended : (c : After-attend-attended) → c.attend-attended.result ≡ attends (left_at c.spread.new.parts.parked c.args.caller.0 (resumed_at c.self.inside.parts.parked c.args.caller.0 c.args.event)) c.in_ok-outcome.outcome.raising
@@ -137,16 +137,16 @@ pub spread-requires-clause-fits : goal.spread-requires-clause-fits
 spread-requires-clause-fits c = record { places = record { lists = c.in_ok-outcome.ensures.lists.turns.places; hopes = c.act.ensures.goes.hopes.places }; room = c.act.ensures.goes.room }
 
 -- the number of the event
-number : (c : goal.After-push_reserved) → c.len.result + 1 ≡ length c.self.inside.history.items + 1
-number c = omega (arith, c.len.ensures, c.reserve.ensures.len)
+number : (c : goal.After-put_record-answer) → c.len.result + 1 ≡ length c.self.inside.history.items + 1
+number c = ap (λ (m : ℕ). m + 1) (c.len.ensures.count ∙ ap (λ (rs : List Record). length rs) c.reserve.ensures.items)
 
 -- the history has its record
-records : (c : goal.After-push_reserved) → c.push_reserved.new.self.items ≡ c.self.inside.history.items ++ record_of c.args.caller c.args.event c.in_ok-outcome.outcome ∷ []
+records : (c : goal.After-put_record-answer) → c.put_record-answer.new.history.items ≡ c.self.inside.history.items ++ record_of c.args.caller c.args.event c.in_ok-outcome.outcome ∷ []
 records c =
-    c.push_reserved.ensures.items ∙ (λ i. c.reserve.ensures.items i ++ c.into_record-answer.ensures.record i ∷ [])
+    c.put_record-answer.ensures.items ∙ ap (λ (rs : List Record). rs ++ record_of c.args.caller c.args.event c.in_ok-outcome.outcome ∷ []) c.reserve.ensures.items
 
 -- the rest of the event, with what is attended
-rested : (c : goal.After-push_reserved) → RestsBy (gets_mark_key (c.len.result + 1) c.spread.new.parts (attends (left_at c.spread.new.parts.parked c.args.caller.0 (resumed_at c.self.inside.parts.parked c.args.caller.0 c.args.event)) c.in_ok-outcome.outcome.raising)) c.spread.new.parts c.rest.new.parts
+rested : (c : goal.After-put_record-answer) → RestsBy (gets_mark_key (c.len.result + 1) c.spread.new.parts (attends (left_at c.spread.new.parts.parked c.args.caller.0 (resumed_at c.self.inside.parts.parked c.args.caller.0 c.args.event)) c.in_ok-outcome.outcome.raising)) c.spread.new.parts c.rest.new.parts
 rested c =
     subst (λ (o : Option DescId). RestsBy (gets_mark_key (c.len.result + 1) c.spread.new.parts o) c.spread.new.parts c.rest.new.parts)
     (c.attend-attended.ensures ∙ ap (λ (o : Option DescId). attends o c.in_ok-outcome.outcome.raising) (c.left.ensures ∙ ap (left_at c.spread.new.parts.parked c.args.caller.0) c.resumed_at-resumed.ensures)) c.rest.ensures.rests
@@ -171,12 +171,12 @@ pub returns-clause-ok : goal.returns-clause-ok
 returns-clause-ok c =
     let k = c.self.inside in
     let outcome = c.in_ok-outcome.outcome in
-    let new : Book = record { limits = c.rest.new.parts.tables.limits; past = c.push_reserved.new.self.items; capacity = vec_capacity c.push_reserved.new.self } in
+    let new : Book = record { limits = c.rest.new.parts.tables.limits; past = c.put_record-answer.new.history.items; capacity = length c.put_record-answer.new.history.items + c.put_record-answer.new.history.room } in
     let adds =
     adds_on c.know_laws.ensures.turns k.history.items k.parts c.act.new.parts c.rest.new.parts k.beside.lists c.act.new.beside.lists c.spread.new.beside.lists c.self.invariant.runs c.know_laws.ensures.coherent c.know_laws.ensures.tables c.know_laws.ensures.interest c.know_laws.ensures.lists c.known.ensures
     c.args.caller c.args.event outcome (c.len.result + 1) (number c) c.in_ok-outcome.ensures.ok c.in_ok-outcome.ensures.lists.turns c.spread.new.parts c.spread.ensures.spreads.spreads c.spread.ensures.spreads.beside.lists (rested c) in
     let old = c.args.self.now.book in
-    subst (λ (a : Answer). Adds old.limits c.args.caller c.args.event a (state_of old) (state_of new) old.past new.past) (sym c.into_record-answer.ensures.answer)
+    subst (λ (a : Answer). Adds old.limits c.args.caller c.args.event a (state_of old) (state_of new) old.past new.past) (sym c.put_record-answer.ensures.answer)
     (subst (λ (b : ReadyBook). Adds b.book.limits c.args.caller c.args.event outcome.answer (state_of b.book) (state_of new) b.book.past new.past) c.self.view_is
     (subst (λ (rs : List Record). Adds k.parts.tables.limits c.args.caller c.args.event outcome.answer (state_of (book_of k).book) (state_of (record new { past = rs })) k.history.items rs) (sym (records c)) adds))
 
@@ -184,7 +184,7 @@ pub returns-clause-lists : goal.returns-clause-lists
 returns-clause-lists c =
     let k = c.self.inside in
     let outcome = c.in_ok-outcome.outcome in
-    let book : Book = record { limits = c.rest.new.parts.tables.limits; past = c.push_reserved.new.self.items; capacity = vec_capacity c.push_reserved.new.self } in
+    let book : Book = record { limits = c.rest.new.parts.tables.limits; past = c.put_record-answer.new.history.items; capacity = length c.put_record-answer.new.history.items + c.put_record-answer.new.history.room } in
     let with_lists : Lists → ReadyBook = λ m. record { book = book; lists = lists_of c.rest.new.parts m } in
     let new = with_lists c.spread.new.beside.lists in
     let first =
@@ -196,7 +196,7 @@ returns-clause-lists c =
     let added =
     added_on c.know_laws.ensures.turns k.history.items k.parts c.act.new.parts c.rest.new.parts k.beside.lists c.act.new.beside.lists c.spread.new.beside.lists c.self.invariant.runs c.know_laws.ensures.coherent c.know_laws.ensures.tables c.know_laws.ensures.interest c.know_laws.ensures.lists c.known.ensures
     c.args.caller c.args.event outcome (c.len.result + 1) (number c) c.in_ok-outcome.ensures.ok c.in_ok-outcome.ensures.lists.turns c.spread.new.parts c.spread.ensures.spreads.spreads c.spread.ensures.spreads.beside.lists (rested c) in
-    subst (λ (a : Answer). TurnsLists c.args.caller c.args.event a c.args.self.now (with_lists c.rest.new.beside.lists)) (sym c.into_record-answer.ensures.answer)
+    subst (λ (a : Answer). TurnsLists c.args.caller c.args.event a c.args.self.now (with_lists c.rest.new.beside.lists)) (sym c.put_record-answer.ensures.answer)
     (subst (λ (b : ReadyBook). TurnsLists c.args.caller c.args.event outcome.answer b (with_lists c.rest.new.beside.lists)) c.self.view_is
     (subst (λ (m : Lists). TurnsLists c.args.caller c.args.event outcome.answer (book_of k) (with_lists m)) (sym c.rest.ensures.lists)
     (record {

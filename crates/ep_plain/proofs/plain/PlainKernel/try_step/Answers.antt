@@ -1,4 +1,4 @@
-use Rattle.std.proofs.Common.{◌≡◌, ◌+◌, ◌++◌, ◌⊎◌, [], ◌∷◌, List, None, Option, Some, ℕ, ap, false, length, ◌∙◌, arith, option_copied, subst, sym, true, vec_capacity}
+use Rattle.std.proofs.Common.{◌≡◌, ◌+◌, ◌++◌, ◌⊎◌, [], ◌∷◌, List, None, Option, Some, ℕ, ap, false, length, ◌∙◌, arith, option_copied, subst, sym, true}
 use Rattle.ep_alarms.proofs.ChangesLemmas.{set_same}
 use Rattle.ep_alarms.specs.Alarms.{AreSet}
 use Rattle.ep_base.specs.declared.answer.Answer.{Answer}
@@ -45,13 +45,13 @@ use Rattle.ep_plain.specs.StepWith.{AddsBy, HasStep}
 use Rattle.ep_plain.specs.These.{MayReport}
 use Rattle.ep_plain.specs.declared.dating.Dating.{Dating}
 use Rattle.ep_plain.specs.declared.plain.PlainKernel.TheInside.{Inside}
-use Rattle.ep_ready.specs.Walk.{Walk}
+use Rattle.ep_walk.specs.Walk.{Walk}
 use Rattle.ep_plain.proofs.plain.PlainKernel.try_step.Goals as goal
 
 pub act_with-requires : goal.act_with-requires
 act_with-requires c =
     let k = c.self.inside in
-    let n : c.len.result + 1 ≡ length k.history.items + 1 = omega (arith, c.len.ensures, c.reserve.ensures.len) in
+    let n : c.len.result + 1 ≡ length k.history.items + 1 = ap (λ (m : ℕ). m + 1) (c.len.ensures.count ∙ ap (λ (rs : List Record). length rs) c.reserve.ensures.items) in
     record {
       step = omega arith;
       exact = subst (λ (m : ℕ). IsExact m k.parts k.dating) (sym n) (exact_now k.history.items k.parts k.dating c.self.invariant.standing);
@@ -78,11 +78,11 @@ returns-in_err-outcome-clause-last c =
     (event_last k.history.items k.parts c.self.invariant.standing.keeps c.args.caller.0 c.args.event c.in_err-outcome.ensures.last))
 
 -- where a second record is asked for, there is a copy, or none is needed
-pub into_record-answer-requires : goal.into_record-answer-requires
-into_record-answer-requires c asked none =
+pub put_record-answer-requires-clause-inline : goal.put_record-answer-requires-clause-inline
+put_record-answer-requires-clause-inline c asked none =
     let k = c.self.inside in
     let o = c.in_ok-outcome.outcome in
-    let n : c.len.result + 1 ≡ length k.history.items + 1 = omega (arith, c.len.ensures, c.reserve.ensures.len) in
+    let n : c.len.result + 1 ≡ length k.history.items + 1 = ap (λ (m : ℕ). m + 1) (c.len.ensures.count ∙ ap (λ (rs : List Record). length rs) c.reserve.ensures.items) in
     let keeps = c.self.invariant.standing.keeps in
     let go =
     may_report k.history.items k.parts keeps c.args.caller c.args.event (option_copied c.args.picks)
@@ -116,7 +116,7 @@ module _ (c : goal.After-date_all-arg-2-1) where
   begun = c.self.invariant.standing
 
   number : c.len.result + 1 ≡ length past + 1
-  number = omega (arith, c.len.ensures, c.reserve.ensures.len)
+  number = ap (λ (m : ℕ). m + 1) (c.len.ensures.count ∙ ap (λ (rs : List Record). length rs) c.reserve.ensures.items)
 
   does : DoesAt (next_event begun.keeps.state) c.args.caller.0 c.args.event c.in_ok-outcome.outcome old c.act_with.new.parts
   does =
@@ -126,8 +126,8 @@ module _ (c : goal.After-date_all-arg-2-1) where
       (subst (λ (b : Book). HasStep b.limits (state_of b) c.args.caller c.args.event (option_copied c.args.picks)) (sym c.self.view_is) c.requires.there))
 
   -- the history has its record
-  history_now : c.deref.result.now ≡ past ++ record_of c.args.caller c.args.event c.in_ok-outcome.outcome ∷ []
-  history_now = c.deref.ensures.value ∙ c.push_reserved.ensures.items ∙ (λ i. c.reserve.ensures.items i ++ c.into_record-answer.ensures.record i ∷ [])
+  history_now : c.put_record-answer.new.history.items ≡ past ++ record_of c.args.caller c.args.event c.in_ok-outcome.outcome ∷ []
+  history_now = c.put_record-answer.ensures.items ∙ ap (λ (rs : List Record). rs ++ record_of c.args.caller c.args.event c.in_ok-outcome.outcome ∷ []) c.reserve.ensures.items
 
 pub date_all-requires-clause-homes : goal.date_all-requires-clause-homes
 date_all-requires-clause-homes c =
@@ -138,7 +138,7 @@ date_all-requires-clause-homes c =
 
 pub date_all-requires-clause-begins : goal.date_all-requires-clause-begins
 date_all-requires-clause-begins c =
-    let reported : c.last_picked-reported.result.now ≡ c.in_ok-outcome.outcome.picked = c.last_picked-reported.ensures (past c) (record_of c.args.caller c.args.event c.in_ok-outcome.outcome) (history_now c) in
+    let reported : c.as_slice.result.now ≡ c.in_ok-outcome.outcome.picked = c.as_slice.ensures ∙ c.last_picked-reported.ensures (past c) (record_of c.args.caller c.args.event c.in_ok-outcome.outcome) (history_now c) in
     let law =
     begins_left c.know_laws.ensures.spread (past c) (old c) c.act_with.new.parts c.spread.new.parts (begun c).keeps c.args.caller c.args.event c.in_ok-outcome.outcome (c.len.result + 1) (number c) (does c) c.in_ok-outcome.ensures.ok.keys c.know_laws.ensures.tables (d c)
     c.act_with.new.dating c.spread.new.dating (begun c).dated c.in_ok-outcome.ensures.follows c.spread.ensures.spreads c.find_called-called.result in
@@ -146,7 +146,7 @@ date_all-requires-clause-begins c =
 
 pub date_all-requires-clause-ends : goal.date_all-requires-clause-ends
 date_all-requires-clause-ends c =
-    let reported : c.last_picked-reported.result.now ≡ c.in_ok-outcome.outcome.picked = c.last_picked-reported.ensures (past c) (record_of c.args.caller c.args.event c.in_ok-outcome.outcome) (history_now c) in
+    let reported : c.as_slice.result.now ≡ c.in_ok-outcome.outcome.picked = c.as_slice.ensures ∙ c.last_picked-reported.ensures (past c) (record_of c.args.caller c.args.event c.in_ok-outcome.outcome) (history_now c) in
     let law =
     ends_left c.know_laws.ensures.stay (past c) (old c) c.act_with.new.parts c.spread.new.parts (begun c).keeps c.args.caller c.args.event c.in_ok-outcome.outcome (c.len.result + 1) (number c) (does c) c.in_ok-outcome.ensures.ok.keys c.know_laws.ensures.coherent c.know_laws.ensures.tables (d c)
     c.act_with.new.dating c.spread.new.dating (begun c).dated (begun c).ready c.in_ok-outcome.ensures.follows c.spread.ensures.spreads c.find_called-called.result c.find_called-called.ensures.called in
@@ -154,7 +154,7 @@ date_all-requires-clause-ends c =
 
 pub date_all-requires-clause-reported : goal.date_all-requires-clause-reported
 date_all-requires-clause-reported c id x at =
-    let reported : c.last_picked-reported.result.now ≡ c.in_ok-outcome.outcome.picked = c.last_picked-reported.ensures (past c) (record_of c.args.caller c.args.event c.in_ok-outcome.outcome) (history_now c) in
+    let reported : c.as_slice.result.now ≡ c.in_ok-outcome.outcome.picked = c.as_slice.ensures ∙ c.last_picked-reported.ensures (past c) (record_of c.args.caller c.args.event c.in_ok-outcome.outcome) (history_now c) in
     ap (λ (ks : List ℕ). is_among ks x.number) reported
     ∙ reported_left (c.len.result + 1) c.in_ok-outcome.outcome.raising c.act_with.new.parts c.spread.new.parts c.spread.ensures.spreads.spreads c.in_ok-outcome.outcome.picked c.in_ok-outcome.ensures.follows.told id x at
 
@@ -170,7 +170,7 @@ module _ (c : goal.After-rest-arg-2-1) where
   keeps = c.self.invariant.standing.keeps
 
   n_is : c.len.result + 1 ≡ length k.history.items + 1
-  n_is = omega (arith, c.len.ensures, c.reserve.ensures.len)
+  n_is = ap (λ (m : ℕ). m + 1) (c.len.ensures.count ∙ ap (λ (rs : List Record). length rs) c.reserve.ensures.items)
 
   done : DoesAt (next_event keeps.state) c.args.caller.0 c.args.event outcome k.parts c.act_with.new.parts
   done =
@@ -227,7 +227,7 @@ module _ (c : goal.After-rest) where
   standing = c.self.invariant.standing
 
   number_then : c.len.result + 1 ≡ length before + 1
-  number_then = omega (arith, c.len.ensures, c.reserve.ensures.len)
+  number_then = ap (λ (m : ℕ). m + 1) (c.len.ensures.count ∙ ap (λ (rs : List Record). length rs) c.reserve.ensures.items)
 
   -- the machine has a step that reports what is given
   may : MayReport first_parts c.args.caller.0 c.args.event (option_copied c.args.picks) (next_event standing.keeps.state)
@@ -253,8 +253,8 @@ module _ (c : goal.After-rest) where
       subst (λ (o : Option DescId). RestsBy (gets_mark_key (c.len.result + 1) left o) left c.rest.new.parts) attended c.rest.ensures.rests
 
   -- the history has its record
-  records : c.push_reserved.new.self.items ≡ before ++ record_of c.args.caller c.args.event c.in_ok-outcome.outcome ∷ []
-  records = c.push_reserved.ensures.items ∙ (λ i. c.reserve.ensures.items i ++ c.into_record-answer.ensures.record i ∷ [])
+  records : c.put_record-answer.new.history.items ≡ before ++ record_of c.args.caller c.args.event c.in_ok-outcome.outcome ∷ []
+  records = c.put_record-answer.ensures.items ∙ ap (λ (rs : List Record). rs ++ record_of c.args.caller c.args.event c.in_ok-outcome.outcome ∷ []) c.reserve.ensures.items
 
 pub invariant_of-self-2 : goal.invariant_of-self-2
 invariant_of-self-2 c =
@@ -279,12 +279,12 @@ returns-clause-ok c =
     let k = c.self.inside in
     let outcome = c.in_ok-outcome.outcome in
     let given = option_copied c.args.picks in
-    let new : Book = record { limits = c.rest.new.parts.tables.limits; past = c.push_reserved.new.self.items; capacity = vec_capacity c.push_reserved.new.self } in
+    let new : Book = record { limits = c.rest.new.parts.tables.limits; past = c.put_record-answer.new.history.items; capacity = length c.put_record-answer.new.history.items + c.put_record-answer.new.history.room } in
     let told = reports (before c) (first_parts c) (standing c).keeps c.args.caller c.args.event (c.len.result + 1) (number_then c) given outcome.picked (may c) c.in_ok-outcome.ensures.picked in
     let adds =
     adds_by (before c) (first_parts c) c.act_with.new.parts c.spread.new.parts (first_dating c) c.act_with.new.dating c.spread.new.dating c.date_all.new.dating (standing c) c.args.caller c.args.event outcome (c.len.result + 1) (number_then c) (does_then c)
     c.in_ok-outcome.ensures.follows c.spread.ensures.spreads c.in_ok-outcome.ensures.ok.keys c.know_laws.ensures.coherent c.rest.new.parts (rests c) given told in
     let was = c.args.self.now in
-    subst (λ (a : Answer). AddsBy was.limits c.args.caller c.args.event given a (state_of was) (state_of new) was.past new.past) (sym c.into_record-answer.ensures.answer)
+    subst (λ (a : Answer). AddsBy was.limits c.args.caller c.args.event given a (state_of was) (state_of new) was.past new.past) (sym c.put_record-answer.ensures.answer)
     (subst (λ (b : Book). AddsBy b.limits c.args.caller c.args.event given outcome.answer (state_of b) (state_of new) b.past new.past) c.self.view_is
     (subst (λ (rs : List Record). AddsBy k.parts.tables.limits c.args.caller c.args.event given outcome.answer (state_of (book_of k)) (state_of (record new { past = rs })) k.history.items rs) (sym (records c)) adds))

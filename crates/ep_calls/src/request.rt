@@ -2,13 +2,15 @@
 
 use ep_base::{CallerId, EventNumber};
 
-/// The number of an event, its caller, and the room for what it adds.
+/// What a step knows of its event before it begins.
 #[derive(Clone, Copy)]
-pub struct Stamp {
+pub struct Request {
     /// The number of the event.
     pub step: EventNumber,
     /// Who makes it.
     pub caller: CallerId,
+    /// Whether a second record of it is asked for.
+    pub kept: bool,
     /// Whether there is room for the moment of a timer that it makes. Without it, none is made.
     pub has_room: bool,
 }
