@@ -2,6 +2,7 @@
 use Rattle.std.proofs.Common.{◌≡◌, ◌&&◌, ◌==◌, Bool, List, [], ◌∷◌, ap, false, negsuc, pos, refl, subst, true, ℤ}
 use Rattle.std.proofs.lemmas.Bool.{eqb-true}
 use Rattle.std.specs.Prelude.{Decides}
+use Rattle.ep_facts.proofs.BoolFacts.{both_true}
 use Rattle.ep_base.specs.Errno.{errno_number}
 use Rattle.ep_base.specs.declared.answer.Answer.{Answer}
 use Rattle.ep_base.specs.declared.answer.Answer.TheVariants.{Bytes, Done, Events, Num, Parked, Refused, Still, Time, Two}
@@ -11,10 +12,6 @@ use Rattle.ep_base.specs.declared.errno.Errno.TheVariants.{Eagain, Ebadf, Ebusy,
 use Rattle.ep_law.proofs.StepLemmas.{same_answer_self}
 use Rattle.ep_machine.specs.Run.{same_answer, same_list, same_report}
 use Rattle.ep_machine.specs.Tables.{same_number}
-
-both : (x y : Bool) → (x && y) ≡ true → (x ≡ true) × (y ≡ true)
-both true y e = (refl, e)
-both false y e = cc
 
 number_is : (a b : ℤ) → same_number a b ≡ true → a ≡ b
 number_is (pos a) (pos b) e = ap pos (eqb-true a b e)
@@ -27,12 +24,12 @@ list_is : {X : Type 0} (same : X → X → Bool)
     → same_list same xs ys ≡ true
     → xs ≡ ys
 list_is same is [] [] e = refl
-list_is same is (x ∷ xs) (y ∷ ys) e = let t = both (same x y) (same_list same xs ys) e in
+list_is same is (x ∷ xs) (y ∷ ys) e = let t = both_true (same x y) (same_list same xs ys) e in
     λ i. is x y t.0 i ∷ list_is same is xs ys t.1 i
 list_is same is xs ys e = cc
 
 report_is : (a b : Report) → same_report a b ≡ true → a ≡ b
-report_is a b e = let t = both (a.bits.0 == b.bits.0) (a.tag == b.tag) e in
+report_is a b e = let t = both_true (a.bits.0 == b.bits.0) (a.tag == b.tag) e in
     λ i. record { bits = record { 0 = eqb-true a.bits.0 b.bits.0 t.0 i }; tag = eqb-true a.tag b.tag t.1 i }
 
 errno_is : (a b : Errno) → (errno_number a == errno_number b) ≡ true → a ≡ b
@@ -56,11 +53,11 @@ errno_is a b e = cc
 answer_is : (a b : Answer) → same_answer a b ≡ true → a ≡ b
 answer_is Done Done e = refl
 answer_is (Num a) (Num b) e = ap Num (eqb-true a b e)
-answer_is (Two a b) (Two c d) e = let t = both (same_number a.0 c.0) (same_number b.0 d.0) e in
+answer_is (Two a b) (Two c d) e = let t = both_true (same_number a.0 c.0) (same_number b.0 d.0) e in
     λ i. Two (record { 0 = number_is a.0 c.0 t.0 i }) (record { 0 = number_is b.0 d.0 t.1 i })
 answer_is (Bytes a) (Bytes b) e = ap Bytes (list_is ◌==◌ eqb-true a b e)
 answer_is (Events a) (Events b) e = ap Events (list_is same_report report_is a b e)
-answer_is (Time a b) (Time c d) e = let t = both (a == c) (b == d) e in
+answer_is (Time a b) (Time c d) e = let t = both_true (a == c) (b == d) e in
     λ i. Time (eqb-true a c t.0 i) (eqb-true b d t.1 i)
 answer_is Parked Parked e = refl
 answer_is Still Still e = refl

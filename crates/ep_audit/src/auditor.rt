@@ -1,12 +1,13 @@
 //! Judges records one after another.
-ghost use Rattle.std.specs.Prelude.{◌≡◌, ◌++◌, ◌∷◌, [], IfOk, List, Some, false, option_map};
+ghost use Rattle.std.specs.Prelude.{◌≡◌, ◌++◌, ◌∷◌, [], IfOk, List, Some, false};
 ghost use Rattle.ep_base.specs.Limits.{Limits as Bounds};
-ghost use Rattle.ep_base.specs.declared.record.Record.{Record as Entry};
+ghost use Rattle.ep_base.specs.declared.record.Record.{Record as Recorded};
 ghost use Rattle.ep_audit.specs.Auditor.{HasAllowed, HasMadeInstead, Judges};
 
 use crate::verdict::follow;
 use ep_base::{Limits, Record};
 use ep_plain::{Kernel, PlainKernel};
+use ep_records::Entry;
 use std::alloc::{AllocError, Global};
 
 /// Judges records one after another, as `audit` judges a list: so a reader of a long history needs no list of it.
@@ -30,7 +31,7 @@ impl Auditor {
     /// the same report, if the machine has a step with that. After false and after an `Err`, which is want of memory,
     /// it says nothing of more records. It takes the time of a step of the scanning kernel, and keeps the record.
     pub fn allows(&mut self, next: &Record) -> Result<bool, AllocError>
-        ensures judges { IfOk result (λ allowed. (limits : Bounds) (records : List Entry) →
+        ensures judges { IfOk result (λ allowed. (limits : Bounds) (records : List Recorded) →
             HasAllowed limits records self.old
             → Judges limits (records ++ next.now ∷ []) self.new allowed) }
         ensures made { IfOk result
@@ -41,9 +42,9 @@ impl Auditor {
 
     /// The last record that it kept, in constant time: the one that it allowed last, or what the machine allows in
     /// place of the one that it didn't. `None` before the first.
-    pub fn last(&self) -> Option<&Record>
-        ensures { (before : List Entry) (last : Entry) → self.now.kernel.past ≡ before ++ last ∷ []
-            → option_map (λ r. r.now) result ≡ Some last }
+    pub fn last(&self) -> Option<Entry<'_>>
+        ensures { (before : List Recorded) (last : Recorded)
+            → self.now.kernel.past ≡ before ++ last ∷ [] → result ≡ Some last }
     {
         self.kernel.history().last()
     }

@@ -5,4 +5,4 @@ mod auditor;
 mod verdict;
 
 pub use crate::auditor::Auditor;
-pub use crate::verdict::{AuditFault, audit};
+pub use crate::verdict::{AuditFault, audit, audit_history};

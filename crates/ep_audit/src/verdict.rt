@@ -6,10 +6,12 @@ ghost use Rattle.ep_machine.specs.Run.{is_run};
 ghost use Rattle.ep_machine.specs.State.{opening};
 ghost use Rattle.ep_calls.specs.Book.{state_of};
 ghost use Rattle.ep_audit.specs.Audit.{Finds, Follows, HasMade, IfJudged, IsFirstIllegal};
+ghost use Rattle.ep_audit.specs.Judged.{judged_records};
 ghost use Rattle.ep_audit.specs.declared.verdict.AuditFault.TheVariants.{Illegal, Memory};
 
 use ep_base::{Answer, Limits, Record};
 use ep_plain::{Kernel, PlainKernel};
+use ep_records::{Entry, History};
 use std::alloc::{AllocError, Global};
 
 /// Why an audit is not Ok.
@@ -19,6 +21,13 @@ pub enum AuditFault {
     Illegal(usize),
     /// There was no memory for a verdict.
     Memory,
+}
+
+/// The records that are judged: those of a list, or of a kernel's history.
+#[derive(Clone, Copy)]
+enum Judged<'a> {
+    Listed(&'a [Record]),
+    Kept(&'a History),
 }
 
 impl From<AllocError> for AuditFault {
@@ -87,17 +96,49 @@ fn first_illegal(kernel: &mut PlainKernel, records: &[Record]) -> Result<Option<
     Ok(None)
 }
 
+/// Makes the step that a record of a history tells of, which is copied for it: whether the machine has it here.
+fn follow_entry(kernel: &mut PlainKernel, entry: &Entry<'_>) -> Result<bool, AllocError>
+    ensures limits { kernel.new.limits ≡ kernel.old.limits }
+    ensures goes { IfOk result
+        (Follows kernel.old.limits (state_of kernel.old) (state_of kernel.new) entry.now) }
+{
+    let next = entry.copy()?;
+    follow(kernel, &next)
+}
+
+/// The place of the first record of a history that the machine does not allow, if there is one.
+fn first_illegal_kept(
+    kernel: &mut PlainKernel,
+    history: &History,
+) -> Result<Option<usize>, AllocError>
+    requires { state_of kernel.old ≡ opening }
+    ensures { IfOk result (Finds kernel.old.limits history.now.items) }
+{
+    for index in 0..history.len() {
+        let Some(entry) = history.get(index) else {
+            unreachable!();
+        };
+        if !follow_entry(kernel, &entry)? {
+            return Ok(Some(index));
+        }
+    }
+    Ok(None)
+}
+
 /// A kernel on which records can be judged.
 trait Judging: Kernel {
     /// The place of the first record that the machine does not allow, if there is one.
-    fn first_illegal(&mut self, records: &[Record]) -> Result<Option<usize>, AllocError>
+    fn first_illegal(&mut self, judged: Judged<'_>) -> Result<Option<usize>, AllocError>
         requires { Self.state self.old ≡ opening }
-        ensures { IfOk result (Finds (Self.bounds self.old) records.now) };
+        ensures { IfOk result (Finds (Self.bounds self.old) (judged_records judged.entry)) };
 }
 
 impl Judging for PlainKernel {
-    fn first_illegal(&mut self, records: &[Record]) -> Result<Option<usize>, AllocError> {
-        first_illegal(self, records)
+    fn first_illegal(&mut self, judged: Judged<'_>) -> Result<Option<usize>, AllocError> {
+        match judged {
+            Judged::Listed(records) => first_illegal(self, records),
+            Judged::Kept(history) => first_illegal_kept(self, history),
+        }
     }
 }
 
@@ -105,25 +146,38 @@ impl Judging for PlainKernel {
 /// since the proof of a function that owns what it knows the parts of grows with them.
 fn first_illegal_on<K: Judging + Drop>(
     made: Result<K, AllocError>,
-    records: &[Record],
+    judged: Judged<'_>,
 ) -> Result<Option<usize>, AllocError>
     requires { IfOk made (λ kernel. K.state kernel ≡ opening) }
     ensures { (limits : Bounds) → IfOk made (λ kernel. K.bounds kernel ≡ limits)
-        → IfOk result (Finds limits records.now) }
+        → IfOk result (Finds limits (judged_records judged.entry)) }
 {
     let mut kernel = made?;
-    kernel.first_illegal(records)
+    kernel.first_illegal(judged)
 }
 
 /// The same of the records on a new kernel of these limits.
 fn first_illegal_from_new(
     alloc: Global,
     limits: &Limits,
-    records: &[Record],
+    judged: Judged<'_>,
 ) -> Result<Option<usize>, AllocError>
-    ensures { IfOk result (Finds limits.now records.now) }
+    ensures { IfOk result (Finds limits.now (judged_records judged.entry)) }
 {
-    first_illegal_on(PlainKernel::new(alloc, *limits), records)
+    first_illegal_on(PlainKernel::new(alloc, *limits), judged)
+}
+
+/// The verdict on records.
+fn verdict(alloc: Global, limits: &Limits, judged: Judged<'_>) -> Result<(), AuditFault>
+    ensures ok { IfJudged result
+        (IsOk result ↔ IsTrue (is_run limits.now (judged_records judged.entry))) }
+    ensures illegal { IfJudged result ((place : ℕ) → IsErrOf result (Illegal place)
+        ↔ IsFirstIllegal limits.now (judged_records judged.entry) place) }
+{
+    match first_illegal_from_new(alloc, limits, judged)? {
+        None => Ok(()),
+        Some(place) => Err(AuditFault::Illegal(place)),
+    }
 }
 
 /// Whether a list of records, asked and answered from the opening state on, is a run of the machine under these limits.
@@ -135,8 +189,16 @@ pub fn audit(alloc: Global, limits: &Limits, records: &[Record]) -> Result<(), A
     ensures illegal { IfJudged result ((place : ℕ) →
         IsErrOf result (Illegal place) ↔ IsFirstIllegal limits.now records.now place) }
 {
-    match first_illegal_from_new(alloc, limits, records)? {
-        None => Ok(()),
-        Some(place) => Err(AuditFault::Illegal(place)),
-    }
+    verdict(alloc, limits, Judged::Listed(records))
+}
+
+/// The same of the records of a kernel's history. One of them at a time is copied, so it may answer `Memory` for want
+/// of memory for a record, too.
+pub fn audit_history(alloc: Global, limits: &Limits, history: &History) -> Result<(), AuditFault>
+    ensures ok { IfJudged result
+        (IsOk result ↔ IsTrue (is_run limits.now history.now.items)) }
+    ensures illegal { IfJudged result ((place : ℕ) → IsErrOf result (Illegal place)
+        ↔ IsFirstIllegal limits.now history.now.items place) }
+{
+    verdict(alloc, limits, Judged::Kept(history))
 }

@@ -84,7 +84,7 @@ impl Judge {
         };
         let mut kept = Vec::with_capacity(alloc, line.len())?;
         kept.extend_from_slice(line)?;
-        let allowed = print_record(alloc, other)?;
+        let allowed = print_record(alloc, &other.copy()?)?;
         self.illegal = Some(Illegal {
             place,
             line: kept,

@@ -4,6 +4,7 @@ use Rattle.std.specs.List.{AllByRecursion, slice_get}
 use Rattle.std.proofs.lemmas.List.{map-append, length-map}
 use Rattle.std.proofs.lemmas.List.Elements.{All-from_recursion, Contains-append_right, recursion_from_All}
 use Rattle.std.proofs.lemmas.List.Kept.{AllPairs-cons}
+use Rattle.ep_facts.proofs.BoolFacts.{both_true}
 use Rattle.ep_base.specs.Limits.{Limits}
 use Rattle.ep_base.specs.declared.answer.Answer.{Answer}
 use Rattle.ep_base.specs.declared.call.Event.{Event}
@@ -20,7 +21,7 @@ use Rattle.ep_orders.specs.declared.turn.Turn.TheVariants.{Clock, Line}
 use Rattle.ep_orders.specs.Explorer.{IsChosen, Told, begun, world_in}
 use Rattle.ep_orders.specs.Orders.{AreTheOrders, Explores, HasEnded, IsOrder, Part, SetsUp, Takes, first_place}
 use Rattle.ep_orders.specs.Place.{Goes, Leads, Move, Place, Steps, World, can_go, may_go, place_after, ways_at}
-use Rattle.ep_orders.specs.Walk.{Chooses, GoesBy}
+use Rattle.ep_orders.specs.Course.{Chooses, GoesBy}
 use Rattle.ep_orders.proofs.ListLemmas.{apart_get, at_contained, contains_cases, contains_head, contains_nothing, get_filter}
 use Rattle.ep_orders.proofs.ExplorerLemmas.{sets_up_each}
 use Rattle.ep_orders.proofs.OrderLemmas.{take_all}
@@ -29,11 +30,6 @@ use Rattle.ep_orders.proofs.WaysLemmas.{one_moment, way_there, ways_apart}
 -- the turns of a run, each with its record
 abbrev pub moves : List (Taken Move) → List Move
 moves ts = map (λ t. t.1) ts
-
-both_true : (a b : Bool) → (a && b) ≡ true → (a ≡ true) × (b ≡ true)
-both_true true true e = (refl, refl)
-both_true true false e = absurd (cc)
-both_true false b e = absurd (cc)
 
 -- ---- a step has one end
 

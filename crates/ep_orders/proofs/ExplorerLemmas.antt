@@ -13,7 +13,7 @@ use Rattle.ep_orders.specs.declared.turn.Turn.{Turn}
 use Rattle.ep_orders.specs.Explorer.{IsChosen}
 use Rattle.ep_orders.specs.Orders.{SetsUp, first_place}
 use Rattle.ep_orders.specs.Place.{Move, World}
-use Rattle.ep_orders.specs.Walk.{Chooses, Walked}
+use Rattle.ep_orders.specs.Course.{Chooses, Walked}
 use Rattle.ep_orders.proofs.OrderLemmas.{zip_each}
 
 pub sets_up_each : (limits : Limits) (s : State) (es : List (CallerId × Event)) (rs : List Record) (t : State) → SetsUp limits s es rs t → length rs ≡ length es

@@ -1,6 +1,6 @@
 pub mod ListLemmas
 pub mod WaysLemmas
-pub mod WalkLemmas
+pub mod CourseLemmas
 pub mod OrderLemmas
 pub mod ExplorerLemmas
 pub mod EveryLemmas

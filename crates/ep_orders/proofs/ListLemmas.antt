@@ -3,6 +3,7 @@ use Rattle.std.proofs.Common.{◌≡◌, ◌≢◌, ◌++◌, ◌∷◌, ◌+◌
 use Rattle.std.specs.List.{AllByRecursion, list_any, range_with_len, slice_get}
 use Rattle.std.proofs.lemmas.List.Elements.{Contains-append_cases, Contains-append_left, Contains-append_right, Contains-push, Contains-push_cases}
 use Rattle.std.proofs.lemmas.List.Folds.{list_any-append}
+use Rattle.std.proofs.Math.Bool.{or-true}
 
 pub range_more : (a n j : ℕ) → a + n ≡ j → range_with_len a (suc n) ≡ range_with_len a n ++ j ∷ []
 range_more a zero j e = ap (λ k. k ∷ []) (omega arith)
@@ -17,15 +18,11 @@ pub any_more : (f : ℕ → Bool) (n : ℕ) → list_any f (range_with_len 0 n) 
 any_more f n below here =
     ap (list_any f) (range_next n) ∙ (list_any-append f (range_with_len 0 n) (n ∷ []) ∙ (ap (λ b. b || (f n || false)) below ∙ ap (λ b. b || false) here))
 
-or_true : (b : Bool) → (b || true) ≡ true
-or_true true = refl
-or_true false = refl
-
 pub any_from : (f : ℕ → Bool) (a n i : ℕ) → i < n → f (a + i) ≡ true → list_any f (range_with_len a n) ≡ true
 any_from f a zero i lt here = absurd (omega arith)
 any_from f a (suc n) zero lt here = ap (λ b. b || list_any f (range_with_len (a + 1) n)) (ap f (omega arith) ∙ here)
 any_from f a (suc n) (suc i) lt here =
-    ap (λ b. f a || b) (any_from f (a + 1) n i (omega arith) (ap f (omega arith) ∙ here)) ∙ or_true (f a)
+    ap (λ b. f a || b) (any_from f (a + 1) n i (omega arith) (ap f (omega arith) ∙ here)) ∙ or-true (f a)
 
 -- ---- what a list contains
 

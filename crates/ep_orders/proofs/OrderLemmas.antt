@@ -14,7 +14,7 @@ use Rattle.ep_orders.specs.declared.turn.Rules.{Rules}
 use Rattle.ep_orders.specs.declared.turn.Turn.{Turn}
 use Rattle.ep_orders.specs.Orders.{HasEnded, SetsUp, first_place}
 use Rattle.ep_orders.specs.Place.{Move, Place, World}
-use Rattle.ep_orders.specs.Walk.{Chooses, GoesBy, GoesOn, PathGrows, Walked}
+use Rattle.ep_orders.specs.Course.{Chooses, GoesBy, GoesOn, PathGrows, Walked}
 
 -- so many turns of an order
 pub record Sofar (w : World) (setup : List (CallerId × Event)) (path grown : List Choice) (turns : List Turn) (past : List Record) (place : ℕ) (at : Place) : Type 0 where

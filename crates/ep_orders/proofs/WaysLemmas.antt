@@ -6,6 +6,9 @@ use Rattle.std.proofs.lemmas.Grind.{flat_map-append}
 use Rattle.std.proofs.lemmas.List.{append-nil, append_assoc}
 use Rattle.std.proofs.lemmas.List.Elements.{Contains-append_left, Contains-append_right, filter-append}
 use Rattle.std.proofs.lemmas.List.Folds.{list_any_none}
+use Rattle.std.proofs.Math.Bool.{and-false}
+use Rattle.ep_facts.proofs.NatFacts.{same_nat}
+use Rattle.ep_facts.proofs.BoolFacts.{both_true}
 use Rattle.ep_orders.specs.declared.scenario.Line.{Line as Script}
 use Rattle.ep_orders.specs.declared.turn.ClockTurns.{ClockTurns}
 use Rattle.ep_orders.specs.declared.turn.ClockTurns.TheVariants.{Any, Idle}
@@ -57,15 +60,6 @@ next_is_some : (s : State) (done : ℕ) (line : Option Script) → is_some (next
 next_is_some s done None e = e
 next_is_some s done (Some l) e = refl
 
-both_true : (a b : Bool) → (a && b) ≡ true → (a ≡ true) × (b ≡ true)
-both_true true true e = (refl, refl)
-both_true true false e = absurd (cc)
-both_true false b e = absurd (cc)
-
-and_false : (b : Bool) → (b && false) ≡ false
-and_false true = refl
-and_false false = refl
-
 can_within : (w : World) (p : Place) (n : ℕ) → can_go w p n ≡ true → n < length w.lines
 can_within w p n can = get_within w.lines n (next_is_some p.state (slice_index p.done n) (slice_get w.lines n) can)
 
@@ -95,14 +89,11 @@ may_by : (w : World) (p : Place) (moment : Option ℕ) (n : ℕ) → can_go w p 
 may_by w p moment n can free =
     ap₂ (λ a b. a && affords w.rules.bound p.spent b) can free ∙ affords_none w.rules.bound p.spent
 
-same_number : (n : ℕ) → (n == n) ≡ true
-same_number n = eq-eqb n n refl
-
 last_may : (w : World) (p : Place) (moment : Option ℕ) (last : Option ℕ) → p.last ≡ last → can_again w p last ≡ true → (n : ℕ) × (may_go w p moment (Line n) ≡ true)
 last_may w p moment None is can = absurd (cc)
 last_may w p moment (Some l) is can =
-    let itself : is_last p.last l ≡ true = ap (λ o. is_last o l) is ∙ same_number l in
-    (l, may_by w p moment l can (ap (λ b. can_again w p p.last && not b) itself ∙ and_false (can_again w p p.last)))
+    let itself : is_last p.last l ≡ true = ap (λ o. is_last o l) is ∙ same_nat l in
+    (l, may_by w p moment l can (ap (λ b. can_again w p p.last && not b) itself ∙ and-false (can_again w p p.last)))
 
 cannot_by : (w : World) (p : Place) (moment : Option ℕ) → ways_at w p moment ≡ [] → (n : ℕ) (b c : Bool) → can_go w p n ≡ b → can_again w p p.last ≡ c → b ≡ false
 cannot_by w p moment none n false c can again_is = refl

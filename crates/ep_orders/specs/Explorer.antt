@@ -7,7 +7,7 @@ use Rattle.ep_paths.specs.Paths.{Taken}
 use Rattle.ep_orders.specs.declared.explorer.Explorer.{Explorer}
 use Rattle.ep_orders.specs.Orders.{HasEnded, SetsUp, first_place}
 use Rattle.ep_orders.specs.Place.{Move, Place, World}
-use Rattle.ep_orders.specs.Walk.{Chooses}
+use Rattle.ep_orders.specs.Course.{Chooses}
 
 abbrev pub world_in : {M K V : Type 0} → (M → Limits) → Explorer M K V → World
 world_in limits e = record { limits = limits e.maker.now; rules = e.rules; lines = e.scenario.now.lines.items }

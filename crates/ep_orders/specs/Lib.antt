@@ -1,4 +1,4 @@
 pub mod Place
 pub mod Orders
-pub mod Walk
+pub mod Course
 pub mod Explorer

@@ -1,17 +1,18 @@
 //! Makes one order after another, each on a kernel of its own.
-ghost use Rattle.std.specs.Prelude.{◌≡◌, ◌+◌, [], IfOk, drop, length, take, true};
+ghost use Rattle.std.specs.Prelude.{◌≡◌, ◌+◌, [], IfOk, length, take, true};
 ghost use Rattle.ep_base.specs.Limits.{Limits as Numbers};
 ghost use Rattle.ep_orders.specs.Explorer.{Told, given_of, world_in};
-ghost use Rattle.ep_orders.specs.Walk.{Walked, world_of};
+ghost use Rattle.ep_orders.specs.Course.{Walked, world_of};
 
+use crate::course::{Course, MOST_TURNS};
 use crate::fault::Fault;
 use crate::scenario::Scenario;
 use crate::turn::{Rules, Turn};
 use crate::visitor::Visitor;
-use crate::walk::{MOST_TURNS, Walk};
 use ep_base::Record;
 use ep_calls::Kernel;
 use ep_paths::{Choice, Runs};
+use ep_records::{Entry, History};
 use std::alloc::{AllocError, Global};
 
 /// Makes kernels, all under the same limits.
@@ -37,19 +38,27 @@ pub(crate) struct Explorer<'a, M, K, V> {
     pub(crate) visitor: V,
 }
 
-/// Whether two histories have the same records up to a place.
-fn is_same_history(a: &[Record], b: &[Record], up_to: usize) -> bool
-    ensures { result ≡ true → take up_to a.now ≡ take up_to b.now }
+/// Whether two entries name the same record. An `Err` is want of memory for a copy.
+fn are_same_entries(one: &Entry<'_>, other: &Entry<'_>) -> Result<bool, AllocError>
+    ensures { IfOk result (λ same. same ≡ true → one.now ≡ other.now) }
+{
+    Ok(one.is_same(&other.copy()?))
+}
+
+/// Whether two histories have the same records up to a place. An `Err` is want of memory for a copy.
+fn is_same_history(a: &History, b: &History, up_to: usize) -> Result<bool, AllocError>
+    ensures { IfOk result (λ same. same ≡ true → take up_to a.now.items ≡ take up_to b.now.items) }
 {
     for place in 0..up_to {
         let (Some(x), Some(y)) = (a.get(place), b.get(place)) else {
-            return false;
+            return Ok(false);
         };
-        if !x.is_same(y) {
-            return false;
+        let same = are_same_entries(&x, &y)?;
+        if !same {
+            return Ok(false);
         }
     }
-    true
+    Ok(true)
 }
 
 /// Whether the same turns come up to a place.
@@ -67,20 +76,9 @@ fn are_same_turns(a: &[Turn], b: &[Turn], up_to: usize) -> bool
     true
 }
 
-/// The records behind so many.
-fn behind(records: &[Record], count: usize) -> &[Record]
-    ensures { result.now ≡ drop count records.now }
-{
-    if count <= records.len() {
-        &records[count..]
-    } else {
-        &[]
-    }
-}
-
 impl<'a, M: Makes<K>, K: Kernel + Drop, V: Visitor> Explorer<'a, M, K, V> {
     /// Makes the order of a path.
-    fn walk(&self, path: &mut Vec<Choice>) -> Result<Walk<'a, K>, Fault>
+    fn walk(&self, path: &mut Vec<Choice>) -> Result<Course<'a, K>, Fault>
         ensures scenario { IfOk result (λ w. w.scenario.now ≡ self.now.scenario.now) }
         ensures world { IfOk result (λ w. world_of K.bounds w ≡ world_in M.limits self.now) }
         ensures walked { IfOk result (λ w. Walked (world_in M.limits self.now)
@@ -88,34 +86,36 @@ impl<'a, M: Makes<K>, K: Kernel + Drop, V: Visitor> Explorer<'a, M, K, V> {
             (K.past w.kernel)) }
     {
         let kernel = self.maker.make(self.alloc)?;
-        let mut walk = Walk::begin(self.alloc, kernel, self.scenario, self.rules)?;
+        let mut course = Course::begin(self.alloc, kernel, self.scenario, self.rules)?;
         let mut ways = Vec::new(self.alloc);
         for place in 0..MOST_TURNS {
-            let more = walk.go_on(&mut ways, path, place)?;
+            let more = course.go_on(&mut ways, path, place)?;
             if more {
                 continue;
             }
             if place < path.len() {
                 return Err(Fault::NotTheSame);
             }
-            return Ok(walk);
+            return Ok(course);
         }
         Err(Fault::TooLong(MOST_TURNS))
     }
 
     /// Whether an order did the same as the last one did, in the setup and so many turns behind it.
-    fn is_same(&self, walk: &Walk<'a, K>, turns: usize) -> bool
-        ensures history { result ≡ true → take (length self.now.scenario.now.setup.items + turns)
-            (K.past self.now.kernel)
-            ≡ take (length self.now.scenario.now.setup.items + turns) (K.past walk.now.kernel) }
-        ensures turns { result ≡ true
-            → take turns self.now.turns.items ≡ take turns walk.now.turns.items }
+    fn is_same(&self, course: &Course<'a, K>, turns: usize) -> Result<bool, AllocError>
+        ensures history { IfOk result (λ same. same ≡ true
+            → take (length self.now.scenario.now.setup.items + turns) (K.past self.now.kernel)
+            ≡ take (length self.now.scenario.now.setup.items + turns) (K.past course.now.kernel)) }
+        ensures turns { IfOk result (λ same. same ≡ true
+            → take turns self.now.turns.items ≡ take turns course.now.turns.items) }
     {
         let Some(up_to) = self.scenario.setup.len().checked_add(turns) else {
-            return false;
+            return Ok(false);
         };
-        is_same_history(self.kernel.history(), walk.kernel.history(), up_to)
-            && are_same_turns(self.turns.as_slice(), walk.turns.as_slice(), turns)
+        if !are_same_turns(self.turns.as_slice(), course.turns.as_slice(), turns) {
+            return Ok(false);
+        }
+        is_same_history(self.kernel.history(), course.kernel.history(), up_to)
     }
 }
 
@@ -130,13 +130,14 @@ impl<M: Makes<K>, K: Kernel + Drop, V: Visitor> Runs for Explorer<'_, M, K, V> {
 
     fn run(&mut self, path: &mut Vec<Choice>) -> Result<(), Fault> {
         let kept = path.len().saturating_sub(1);
-        let walk = self.walk(path)?;
-        if !self.is_same(&walk, kept) {
+        let course = self.walk(path)?;
+        let same = self.is_same(&course, kept)?;
+        if !same {
             return Err(Fault::NotTheSame);
         }
-        let Walk { kernel, turns, .. } = walk;
-        let records = behind(kernel.history(), self.scenario.setup.len());
-        self.visitor.visit(turns.as_slice(), records)?;
+        let Course { kernel, turns, .. } = course;
+        let records = kernel.history().copies_from(self.scenario.setup.len())?;
+        self.visitor.visit(turns.as_slice(), records.as_slice())?;
         self.kernel = kernel;
         self.turns = turns;
         Ok(())

@@ -1,13 +1,13 @@
 //! Every order of what callers do: each order in which their lines of events can come to a kernel is run once.
 #![tactic(auto)]
 
+mod course;
 mod explorer;
 mod fault;
 mod orders;
 mod scenario;
 mod turn;
 mod visitor;
-mod walk;
 
 pub use crate::explorer::Makes;
 pub use crate::fault::Fault;

@@ -2,12 +2,12 @@
 ghost use Rattle.std.specs.Prelude.{◌≡◌, IfOk};
 ghost use Rattle.ep_orders.specs.Orders.{Explores};
 
+use crate::course::Course;
 use crate::explorer::{Explorer, Makes};
 use crate::fault::Fault;
 use crate::scenario::Scenario;
 use crate::turn::Rules;
 use crate::visitor::Visitor;
-use crate::walk::Walk;
 use ep_calls::Kernel;
 use ep_paths::run_all;
 use std::alloc::Global;
@@ -44,8 +44,8 @@ pub fn explore<M: Makes<K>, K: Kernel + Drop, V: Visitor>(
             };
         }
     };
-    let walk = match Walk::begin(alloc, kernel, scenario, rules) {
-        Ok(walk) => walk,
+    let course = match Course::begin(alloc, kernel, scenario, rules) {
+        Ok(course) => course,
         Err(fault) => {
             return Explored {
                 visitor,
@@ -53,7 +53,7 @@ pub fn explore<M: Makes<K>, K: Kernel + Drop, V: Visitor>(
             };
         }
     };
-    let Walk { kernel, turns, .. } = walk;
+    let Course { kernel, turns, .. } = course;
     let mut explorer = Explorer {
         alloc,
         maker,

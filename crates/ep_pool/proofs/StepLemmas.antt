@@ -8,10 +8,6 @@ use Rattle.ep_pool.specs.Jobs.{stop_of}
 use Rattle.ep_pool.specs.Steps.{StepAdds, StepsAdd}
 use Rattle.ep_pool.specs.declared.job.Step.{Step}
 
-pub not_true : (b : Bool) → not b ≡ true → b ≡ false
-not_true true e = cc
-not_true false e = refl
-
 pub steps_push : (c : ℕ) (old mid new : List Record) (xs : List Step) (s : Step) → StepsAdd c old mid xs → StepAdds c mid new s → StepsAdd c old new (xs ++ s ∷ [])
 steps_push c old mid new [] s h t = (new, subst (λ (m : List Record). StepAdds c m new s) h t, refl)
 steps_push c old mid new (x ∷ xs) s h t = (h.0, h.1, steps_push c h.0 mid new xs s h.2 t)

@@ -248,7 +248,7 @@ fn what_is_no_call_is_told_with_its_line(rt: HostRuntime) -> Result<(), Fail> {
     is_refused(
         &rt,
         "{\"op\":\"read\",\"pd\":3}\n",
-        "line 1 is no command: unknown key \"pd\"",
+        "line 1 is no command: unknown key \"pd\"; did you mean \"fd\"?",
     )
 }
 

@@ -10,7 +10,6 @@ use crate::book::laws::same_parts;
 use crate::book::{Book, Session};
 use ep_base::{CallerId, Limits, Record};
 use ep_calls::Kernel;
-use std::alloc::{AllocError, Global};
 use std::sync::ledger::Ledger;
 
 /// All that was asked of a kernel and answered, and the limits that it was made with.
@@ -33,29 +32,6 @@ pub enum FinishFault {
     Mismatch(CallerId),
     /// There is no memory for the history.
     Memory,
-}
-
-/// The same record once more.
-fn copy_of(one: &Record) -> Result<Record, AllocError>
-    ensures { IfOk result (λ copy. copy ≡ one.now) }
-{
-    Ok(Record {
-        caller: one.caller,
-        event: one.event.copy()?,
-        answer: one.answer.copy()?,
-        picked: one.picked.copy()?,
-    })
-}
-
-/// The same records once more.
-fn copies_of(alloc: Global, records: &[Record]) -> Result<Vec<Record>, AllocError>
-    ensures { IfOk result (λ copies. copies.items ≡ records.now) }
-{
-    let mut copies = Vec::with_capacity(alloc, records.len())?;
-    for one in records {
-        copies.push(copy_of(one)?)?;
-    }
-    Ok(copies)
 }
 
 impl<K: Kernel + Drop, L: Ledger> Book<K, L> {
@@ -88,7 +64,7 @@ impl<K: Kernel + Drop, L: Ledger> Book<K, L> {
         if let Err(caller) = same_parts(self.kernel.history(), &handed) {
             return Err(FinishFault::Mismatch(caller));
         }
-        let Ok(records) = copies_of(self.alloc, self.kernel.history()) else {
+        let Ok(records) = self.kernel.history().copies() else {
             return Err(FinishFault::Memory);
         };
         let Book { mut made, .. } = self;

@@ -2,4 +2,4 @@ use Rattle.std.proofs.Common.{◌≡◌, ◌≤◌, length, take}
 use Rattle.ep_orders.proofs.explorer.is_same_history.Given as goal
 
 abbrev pub invariant-loop-place : goal.invariant-loop-place
-invariant-loop-place l = (take l.place l.a ≡ take l.place l.b) × (l.place ≤ length l.a) × (l.place ≤ length l.b)
+invariant-loop-place l = (take l.place l.a.items ≡ take l.place l.b.items) × (l.place ≤ length l.a.items) × (l.place ≤ length l.b.items)

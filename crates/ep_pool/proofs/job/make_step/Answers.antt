@@ -1,9 +1,9 @@
 use Rattle.std.proofs.Common.{rules, ◌≡◌, ◌∙◌, Bool, SFits, false, not, sym, true, w32}
 use Rattle.std.proofs.lemmas.Int.{to_z-of_z}
+use Rattle.ep_facts.proofs.BoolFacts.{from_not}
 use Rattle.ep_calls.specs.Acts.{is_no_memory as wants_memory}
 use Rattle.ep_pool.specs.Steps.{Makes}
 use Rattle.ep_shared.specs.Sessions.{caller_of, records_of}
-use Rattle.ep_pool.proofs.StepLemmas.{not_true}
 use Rattle.ep_pool.proofs.job.make_step.Goals as goal
 use Rattle.ep_pool.proofs.job.make_step.Goals.{in-Call, in-Wait, in-Tick}
 
@@ -19,4 +19,4 @@ returns-clause-made g c goes =
           rw (w.session-is, w.answer-is, x.is) adds)
       | in-Tick w ↦ rw (w.session-is, w.answer-is, w.in-Tick.is) w.tick-answer.ensures.adds
     ] in
-    record { answer = answer; real = sym c.is_no_memory.ensures ∙ not_true c.is_no_memory.result goes; makes = makes }
+    record { answer = answer; real = sym c.is_no_memory.ensures ∙ from_not c.is_no_memory.result goes; makes = makes }

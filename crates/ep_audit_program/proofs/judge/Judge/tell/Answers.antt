@@ -1,4 +1,5 @@
-use Rattle.std.proofs.Common.{Some, rules, sym, ◌∙◌, ◌≡◌}
+use Rattle.std.proofs.Common.{Some, ap, rules, sym, ◌∙◌, ◌≡◌}
+use Rattle.ep_base.specs.declared.record.Record.{Record}
 use Rattle.ep_audit.proofs.AuditorLemmas.{last_made}
 use Rattle.ep_audit_program.proofs.JudgeLemmas.{stays, told_illegal}
 use Rattle.ep_audit_program.proofs.judge.Judge.tell.Goals as goal
@@ -11,6 +12,6 @@ pub returns : goal.returns
 returns c = λ limits records lines told at place.
     let same : c.extend_from_slice.new.self.items ≡ c.args.line.now = search rules in
     let m = c.in_ok-allows.ensures.made c.if-branch.false in
-    let last = last_made c.args.self.now.auditor c.allows.new.self c.args.next.now (Some c.in-Some.other.now) m c.in-Some.ensures in
+    let last = last_made c.args.self.now.auditor c.allows.new.self c.args.next.now (Some c.in-Some.other) m c.in-Some.ensures in
     told_illegal limits records lines c.args.self.now c.allows.new.self (record { place = c.args.place; line = c.extend_from_slice.new.self; allowed = c.in_ok-allowed.allowed })
-    c.args.next.now c.args.line.now c.in_ok-allows.field-0 (sym c.is_some.ensures ∙ c.if-is_some.false) c.in_ok-allows.ensures.judges c.if-branch.false m same (c.in_ok-allowed.ensures.law ∙ last) told at place
+    c.args.next.now c.args.line.now c.in_ok-allows.field-0 (sym c.is_some.ensures ∙ c.if-is_some.false) c.in_ok-allows.ensures.judges c.if-branch.false m same (c.in_ok-allowed.ensures.law ∙ (ap (λ (r : Record). Some r) c.in_ok-copy.ensures ∙ last)) told at place

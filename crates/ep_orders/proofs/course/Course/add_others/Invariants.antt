@@ -1,7 +1,7 @@
 use Rattle.std.proofs.Common.{◌≡◌, ◌++◌, filter}
 use Rattle.ep_orders.specs.Place.{may_go, others}
-use Rattle.ep_orders.specs.Walk.{place_of, world_of}
-use Rattle.ep_orders.proofs.walk.Walk.add_others.Given as goal
+use Rattle.ep_orders.specs.Course.{place_of, world_of}
+use Rattle.ep_orders.proofs.course.Course.add_others.Given as goal
 
 abbrev pub invariant-loop-number : goal.invariant-loop-number
 invariant-loop-number g l =

@@ -1,6 +1,6 @@
 use Rattle.std.proofs.Common.{◌∙◌}
-use Rattle.ep_orders.proofs.WalkLemmas.{sets_up_next}
-use Rattle.ep_orders.proofs.walk.set_up.Goals as goal
+use Rattle.ep_orders.proofs.CourseLemmas.{sets_up_next}
+use Rattle.ep_orders.proofs.course.set_up.Goals as goal
 
 pub loop-asked-preserved : goal.loop-asked-preserved
 loop-asked-preserved g c =

@@ -1,8 +1,8 @@
 use Rattle.std.proofs.Common.{◌∙◌, ap, arith, length, rules, sym}
 use Rattle.ep_orders.specs.Place.{can_go}
-use Rattle.ep_orders.specs.Walk.{place_of, world_of}
+use Rattle.ep_orders.specs.Course.{place_of, world_of}
 use Rattle.ep_orders.proofs.ListLemmas.{any_from, any_more}
-use Rattle.ep_orders.proofs.walk.Walk.can_any_go.Goals as goal
+use Rattle.ep_orders.proofs.course.Course.can_any_go.Goals as goal
 
 pub returns-then-can_go : goal.returns-then-can_go
 returns-then-can_go g c =

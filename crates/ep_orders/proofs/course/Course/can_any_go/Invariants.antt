@@ -1,8 +1,8 @@
 use Rattle.std.proofs.Common.{◌≡◌, false}
 use Rattle.std.specs.List.{list_any, range_with_len}
 use Rattle.ep_orders.specs.Place.{can_go}
-use Rattle.ep_orders.specs.Walk.{place_of, world_of}
-use Rattle.ep_orders.proofs.walk.Walk.can_any_go.Given as goal
+use Rattle.ep_orders.specs.Course.{place_of, world_of}
+use Rattle.ep_orders.proofs.course.Course.can_any_go.Given as goal
 
 abbrev pub invariant-loop-number : goal.invariant-loop-number
 invariant-loop-number g l =

@@ -1,7 +1,7 @@
 use Rattle.std.proofs.Common.{◌≡◌, ◌++◌, List, take}
 use Rattle.ep_base.specs.declared.record.Record.{Record}
 use Rattle.ep_orders.specs.Orders.{SetsUp}
-use Rattle.ep_orders.proofs.walk.set_up.Given as goal
+use Rattle.ep_orders.proofs.course.set_up.Given as goal
 
 abbrev pub invariant-loop-asked : goal.invariant-loop-asked
 invariant-loop-asked g l =

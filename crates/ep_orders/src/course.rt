@@ -7,7 +7,7 @@ ghost use Rattle.ep_machine.specs.State.{opening};
 ghost use Rattle.ep_orders.specs.Orders.{HasEnded, SetsUp, first_place};
 ghost use Rattle.ep_orders.specs.Place.{affords, asked, asked_by, can_again, can_any_go, can_go, done_by};
 ghost use Rattle.ep_orders.specs.Place.{is_preemption, may_go, may_pass, next_at, next_of, other, others, place_after, ways_at};
-ghost use Rattle.ep_orders.specs.Walk.{Enters, GoesOn, PathGrows, Took, event_of, place_of, world_of};
+ghost use Rattle.ep_orders.specs.Course.{Enters, GoesOn, PathGrows, Took, event_of, place_of, world_of};
 
 use crate::fault::Fault;
 use crate::scenario::{Line, Scenario};
@@ -31,7 +31,7 @@ pub(crate) enum Next<'a> {
 
 /// One order, as far as it has come: a kernel, and of each line how many of its events were asked for.
 #[derive(Drop)]
-pub(crate) struct Walk<'a, K> {
+pub(crate) struct Course<'a, K> {
     pub(crate) kernel: K,
     pub(crate) turns: Vec<Turn>,
     scenario: &'a Scenario,
@@ -77,7 +77,7 @@ fn set_up<K: Kernel>(kernel: &mut K, setup: &[(CallerId, Event)]) -> Result<(), 
 }
 
 /// The way to go at a place: that of the path, or the first one, which is added to it.
-fn choose(path: &mut Vec<Choice>, place: usize, ways: usize) -> Result<usize, Fault>
+fn choose_way(path: &mut Vec<Choice>, place: usize, ways: usize) -> Result<usize, Fault>
     requires { place ≤ vec_len path.old }
     ensures { IfOk result (λ way. PathGrows path.old.items place
         (record { way = way; ways = ways }) path.new.items) }
@@ -98,14 +98,14 @@ fn way_at(ways: &[Turn], way: usize) -> Option<Turn>
     ways.get(way).copied()
 }
 
-impl<'a, K: Kernel> Walk<'a, K> {
+impl<'a, K: Kernel> Course<'a, K> {
     /// Does the setup on a new kernel.
     pub(crate) fn begin(
         alloc: Global,
         mut kernel: K,
         scenario: &'a Scenario,
         rules: Rules,
-    ) -> Result<Walk<'a, K>, Fault>
+    ) -> Result<Course<'a, K>, Fault>
     where
         K: Drop,
         requires { K.past kernel ≡ [] }
@@ -121,7 +121,7 @@ impl<'a, K: Kernel> Walk<'a, K> {
         let _none = kernel.history();
         set_up(&mut kernel, scenario.setup.as_slice())?;
         let done = vec![in alloc; 0; scenario.lines.len()]?;
-        Ok(Walk {
+        Ok(Course {
             kernel,
             turns: Vec::new(alloc),
             scenario,
@@ -442,7 +442,7 @@ impl<'a, K: Kernel> Walk<'a, K> {
         if found.is_empty() {
             return Ok(false);
         }
-        let way = choose(path, place, found.len())?;
+        let way = choose_way(path, place, found.len())?;
         let Some(turn) = way_at(found, way) else {
             return Err(Fault::NotTheSame);
         };

@@ -1,7 +1,7 @@
 use Rattle.ep_orders.specs.Place.{may_go}
-use Rattle.ep_orders.specs.Walk.{place_of, world_of}
+use Rattle.ep_orders.specs.Course.{place_of, world_of}
 use Rattle.ep_orders.proofs.WaysLemmas.{others_more}
-use Rattle.ep_orders.proofs.walk.Walk.add_others.Goals as goal
+use Rattle.ep_orders.proofs.course.Course.add_others.Goals as goal
 
 pub loop-number-preserved : goal.loop-number-preserved
 loop-number-preserved g c =

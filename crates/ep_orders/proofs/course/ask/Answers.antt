@@ -1,6 +1,6 @@
 use Rattle.std.proofs.Common.{sym}
-use Rattle.ep_orders.proofs.WalkLemmas.{entered}
-use Rattle.ep_orders.proofs.walk.ask.Goals as goal
+use Rattle.ep_orders.proofs.CourseLemmas.{entered}
+use Rattle.ep_orders.proofs.course.ask.Goals as goal
 
 pub returns-clause-enters : goal.returns-clause-enters
 returns-clause-enters g c =

@@ -15,7 +15,7 @@ use Rattle.ep_paths.specs.declared.choice.Choice.{Choice}
 use Rattle.ep_orders.specs.declared.turn.Turn.{Turn}
 use Rattle.ep_orders.specs.Orders.{SetsUp}
 use Rattle.ep_orders.specs.Place.{Place, Steps, World, ways_at}
-use Rattle.ep_orders.specs.Walk.{Enters, GoesOn, PathGrows, Took}
+use Rattle.ep_orders.specs.Course.{Enters, GoesOn, PathGrows, Took}
 
 -- ---- a step
 

@@ -10,9 +10,9 @@ use Rattle.ep_machine.specs.State.{State, opening}
 use Rattle.ep_calls.specs.Driver.{TellsNext}
 use Rattle.ep_paths.specs.declared.choice.Choice.{Choice}
 use Rattle.ep_paths.specs.Paths.{IsFirst, Taken}
-use Rattle.ep_orders.specs.declared.walk.Next.{Next}
-use Rattle.ep_orders.specs.declared.walk.Next.TheVariants as next
-use Rattle.ep_orders.specs.declared.walk.Walk.{Walk}
+use Rattle.ep_orders.specs.declared.course.Next.{Next}
+use Rattle.ep_orders.specs.declared.course.Next.TheVariants as next
+use Rattle.ep_orders.specs.declared.course.Course.{Course}
 use Rattle.ep_orders.specs.declared.turn.Turn.{Turn}
 use Rattle.ep_orders.specs.Orders.{HasEnded, SetsUp, first_place}
 use Rattle.ep_orders.specs.Place.{Move, Place, Steps, World, asked, place_after, ways_at}
@@ -21,10 +21,10 @@ abbrev pub event_of : Next → Event
 event_of next.Resume = Resume
 event_of (next.Event e) = e.now
 
-abbrev pub world_of : {K : Type 0} → (K → Limits) → Walk K → World
+abbrev pub world_of : {K : Type 0} → (K → Limits) → Course K → World
 world_of bounds w = record { limits = bounds w.kernel; rules = w.rules; lines = w.scenario.now.lines.items }
 
-abbrev pub place_of : {K : Type 0} → (K → State) → Walk K → Place
+abbrev pub place_of : {K : Type 0} → (K → State) → Course K → Place
 place_of state w = record { state = state w.kernel; done = w.done.items; last = w.last; spent = w.spent }
 
 -- one turn, by a choice among the ways
