@@ -1,10 +1,8 @@
 -- What stands in the history's writer, record by record.
-use Rattle.std.proofs.Common.{Bool, List, Option, IfSome, Err, Result, [], ap, append-nil, append_assoc, arith, false, if◌then◌else◌, inl, inr, length, refl, sym, take, true, ℕ, ◌+◌, ◌++◌, ◌≡◌, ◌≤◌, ◌∙◌, ◌∷◌, ◌⊎◌}
+use Rattle.std.proofs.Common.{List, Option, IfSome, Err, Result, [], ap, append-nil, append_assoc, arith, inl, inr, length, refl, sym, take, ℕ, ◌+◌, ◌++◌, ◌≡◌, ◌≤◌, ◌∙◌, ◌∷◌, ◌⊎◌}
 use Rattle.std.specs.Io.KnownBytes.{Appends}
 use Rattle.std.proofs.Math.Seq.{take-append-add}
-use Rattle.std.proofs.lemmas.List.{length-map}
 use Rattle.ep_base.specs.declared.record.Record.{Record}
-use Rattle.ep_calls.specs.Acts.{is_no_memory}
 use Rattle.ep_history.specs.Records.{record_line}
 use Rattle.ep_version.specs.declared.version.Version.{Version}
 use Rattle.ep_script.specs.declared.fault.RecordedFault.{RecordedFault}
@@ -13,10 +11,11 @@ use Rattle.ep_script.specs.declared.fault.ScriptFault.{ScriptFault}
 use Rattle.ep_script.specs.declared.fault.ScriptFault.TheVariants as fault
 use Rattle.ep_script.specs.declared.summary.Summary.{Summary}
 use Rattle.ep_script.specs.Recorded.{EndsBy, Writes, WritesPart, history_text, line_at}
-use Rattle.ep_script.specs.Steps.{AnswerFault}
-use Rattle.ep_script.specs.Transcript.{Asked, Exchange, Grows, Outcome, answered, bad, head, recorded, told}
+use Rattle.ep_script.specs.Steps.{AnswerFault, MayGain}
+use Rattle.ep_script.specs.Transcript.{Asked, Grows, Outcome}
 use Rattle.ep_script.proofs.Faults.{read_fault}
 use Rattle.ep_script.proofs.RunLemmas.{Ran}
+use Rattle.ep_script.proofs.TallyLemmas.{gains_of, grown_few}
 use Rattle.ep_script.proofs.WriterLemmas.{appends_more, appends_nothing}
 
 history_text_more : (xs ys : List Record) → history_text (xs ++ ys) ≡ history_text xs ++ history_text ys
@@ -30,18 +29,6 @@ line_here [] [] few = refl
 line_here [] (r ∷ []) few = refl
 line_here [] (r ∷ q ∷ g) few = absurd (omega (arith, few))
 line_here (x ∷ h) g few = line_here h g few
-
-one_at_most : (b : Bool) (x : Exchange) → length (if b then [] else x ∷ []) ≤ 1
-one_at_most true x = omega arith
-one_at_most false x = omega arith
-
-recorded_few : (o : Outcome) → length (recorded o) ≤ 1
-recorded_few bad = omega arith
-recorded_few (head v) = omega arith
-recorded_few (answered x) = one_at_most (is_no_memory x.answer) x
-
-grown_few : (h h' : List Record) (o : Outcome) (g : Grows h h' (o ∷ [])) → length g.0 ≤ 1
-grown_few h h' o g = omega (arith, length-map g.0 told, ap length g.2, ap length (append-nil (recorded o)), recorded_few o)
 
 line_grown : (h h' : List Record) (o : Outcome) (g : Grows h h' (o ∷ [])) (place : ℕ) → place ≡ length h → line_at place h' ≡ history_text g.0
 line_grown h h' o g place e = rw (e, g.1) (line_here h g.0 (grown_few h h' o g))
@@ -72,20 +59,31 @@ pub part_of_line : (w v v' : Option (List ℕ)) (h0 h h' : List Record) (o : Out
 part_of_line w v v' h0 h h' o place n p g e wrote = writes_part w v v' h0 h h' g.0 n p g.1 (rw (line_grown h h' o g place e) at wrote)
 
 -- the record of a line that was not answered whole stands in no line
-pub part_unanswered : (w v old new : Option (List ℕ)) (h0 h h' : List Record) (c : Asked) (d : Version) (number : ℕ) (e : ScriptFault) → Writes w v h0 h → AnswerFault e c d number old new h h'
-    → WritesPart w v h0 h'
-part_unanswered w v old new h0 h h' c d number fault.Memory p a = writes_part w v v h0 h h' a.1.0 0 p a.1.1 (appends_nothing v)
-part_unanswered w v old new h0 h h' c d number fault.Write p a = writes_part w v v h0 h h' a.3.grows.0 0 p a.3.grows.1 (appends_nothing v)
-part_unanswered w v old new h0 h h' c d number fault.Read p a = absurd a
-part_unanswered w v old new h0 h h' c d number fault.Lines p a = absurd a
-part_unanswered w v old new h0 h h' c d number (fault.Line x) p a = absurd a
+gained : (c : Asked) (d : Version) (number : ℕ) (e : ScriptFault) (old new : Option (List ℕ)) (waited : List ℕ) (h h' : List Record) → AnswerFault e c d number old new waited h h' → MayGain h h'
+gained c d number fault.Memory old new waited h h' a = gains_of c h h' a.1
+gained c d number fault.Write old new waited h h' (inl a) = gains_of c h h' (inl a.0)
+gained c d number fault.Write old new waited h h' (inr a) = gains_of c h h' (inr a.0)
+gained c d number fault.Read old new waited h h' a = absurd a
+gained c d number fault.Lines old new waited h h' a = absurd a
+gained c d number (fault.Line x) old new waited h h' a = absurd a
+
+pub part_unanswered : (w v old new : Option (List ℕ)) (waited : List ℕ) (h0 h h' : List Record) (c : Asked) (d : Version) (number : ℕ) (e : ScriptFault) → Writes w v h0 h
+    → AnswerFault e c d number old new waited h h' → WritesPart w v h0 h'
+part_unanswered w v old new waited h0 h h' c d number e p a =
+    let more = gained c d number e old new waited h h' a in
+    writes_part w v v h0 h h' more.0 0 p more.1 (appends_nothing v)
 
 -- ---- faults
 
-pub history_fault : (k l w v : Option (List ℕ)) (h0 h : List Record) (u : Version) (s : Summary) (e : RecordedFault) → Ran k l w v h0 h u s → (e ≡ History) ⊎ (e ≡ Memory)
-    → IfSome k (λ i. EndsBy e i w v h0 h)
-history_fault k l w v h0 h u s e p (inl f) = rw f (read_fault k l w v h0 h u s p)
-history_fault k l w v h0 h u s e p (inr f) = rw f (read_fault k l w v h0 h u s p)
+-- nothing waits where a record can fail
+nothing_waits : (q : List ℕ) (room : ℕ) → length q ≤ room → room ≡ 0 → q ≡ []
+nothing_waits [] room few none = refl
+nothing_waits (x ∷ q) room few none = absurd (omega (arith, few, none))
+
+pub history_fault : (room : ℕ) (k l w v : Option (List ℕ)) (q : List ℕ) (h0 h : List Record) (u : Version) (s : Summary) (e : RecordedFault) → Ran k l w v q h0 h u s → length q ≤ room → room ≡ 0
+    → (e ≡ History) ⊎ (e ≡ Memory) → IfSome k (λ i. EndsBy room e i w v h0 h)
+history_fault room k l w v q h0 h u s e p few none (inl f) = rw f (read_fault room k l w v h0 h u s (rw (nothing_waits q room few none) at p))
+history_fault room k l w v q h0 h u s e p few none (inr f) = rw f (read_fault room k l w v h0 h u s (rw (nothing_waits q room few none) at p))
 
 pub never_script : (X : Type 0) {T : Type 0} (e : RecordedFault) (f : ScriptFault) → (e ≡ History) ⊎ (e ≡ Memory) → ◌≡◌ {A = Result T RecordedFault} (Err e) (Err (Script f)) → X
 never_script X e f (inl g) q = absurd (cc)

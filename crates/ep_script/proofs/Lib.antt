@@ -1,6 +1,7 @@
 pub mod Lines
 pub mod Pieces
 pub mod WriterLemmas
+pub mod GatherLemmas
 pub mod RecordLemmas
 pub mod TallyLemmas
 pub mod RunLemmas

@@ -1,5 +1,5 @@
 -- A line that is read piece by piece, where the reader's bytes are known.
-use Rattle.std.proofs.Common.{List, None, Option, Some, IfSome, [], ap, append-nil, append_assoc, arith, drop, inl, inr, length, length-append, length-take, sym, ℕ, ◌-◌, ◌++◌, ◌≡◌, ◌≤◌, ◌∙◌, ◌∷◌}
+use Rattle.std.proofs.Common.{List, None, Option, Some, IfSome, ap, append-nil, append_assoc, arith, drop, inl, inr, length, length-append, length-take, sym, ℕ, ◌-◌, ◌++◌, ◌≡◌, ◌≤◌, ◌∙◌, ◌∷◌}
 use Rattle.std.specs.Io.KnownBytes.{prepend_known}
 use Rattle.ep_script.specs.declared.chunk.Input.{Input}
 use Rattle.ep_script.specs.Known.{Leads}
@@ -67,3 +67,15 @@ overflows most None l m line u p q h = tt
 overflows most (Some xs) None m line u p q h = absurd p
 overflows most (Some xs) (Some ys) None line u p q h = absurd q
 overflows most (Some xs) (Some ys) (Some zs) line u p q h = too_long most xs (line ++ u) zs h (p ∙ ap (λ y. line ++ y) q ∙ sym (append_assoc line u zs))
+
+-- ---- a line that is at hand to its end
+
+pub comes_at_hand : (u v line : List ℕ) (m : Option (List ℕ)) → u ≡ line ++ 10 ∷ v → IsPlain line → Leads (prepend_known u m) (prepend_known v m) (λ xs ys. TakesLine xs line ys)
+comes_at_hand u v line None e plain = tt
+comes_at_hand u v line (Some zs) e plain = record {
+  plain = plain;
+  cut = inl (ap (λ y. y ++ zs) e ∙ append_assoc line (10 ∷ v) zs);
+}
+
+pub fits_at_hand : (i : Input) (line v : List ℕ) → unread i ≡ line ++ 10 ∷ v → length line ≤ most_read
+fits_at_hand i line v e = omega (arith, unread_few i, ap length e, length-append line (10 ∷ v))

@@ -1,5 +1,5 @@
 -- What a history gains by one line.
-use Rattle.std.proofs.Common.{Bool, Err, List, None, Ok, OnErr, Result, Some, [], ap, append-nil, arith, false, if◌then◌else◌, length, map, refl, sym, true, ℕ, MatchBool, ◌++◌, ◌≡◌, ◌≤◌, ◌∷◌, ◌∙◌}
+use Rattle.std.proofs.Common.{Bool, Err, List, None, Ok, OnErr, Result, Some, [], ap, append-nil, false, if◌then◌else◌, inr, map, refl, sym, true, ℕ, MatchBool, ◌++◌, ◌≡◌, ◌∷◌, ◌∙◌}
 use Rattle.ep_base.specs.Limits.{Limits}
 use Rattle.ep_base.specs.declared.answer.Answer.{Answer}
 use Rattle.ep_base.specs.declared.call.Event.{Event}
@@ -12,32 +12,21 @@ use Rattle.ep_script.specs.declared.summary.LineKind.TheVariants as kind
 use Rattle.ep_version.specs.declared.version.Version.{Version}
 use Rattle.ep_text.specs.Event.{event as command}
 use Rattle.ep_text.specs.Line.{header_line, line_of}
-use Rattle.ep_script.specs.Steps.{MayGain, Tells}
+use Rattle.ep_script.specs.Steps.{MayBecome, Tells}
 use Rattle.ep_script.specs.Transcript.{Exchange, Grows, answered, asks, head, header_at, header_or, names, then_in, told}
 
 -- by one step
 by_step : (b : Bool) (limits : Limits) (x : Exchange) (s t : State) (past now : List Record) → MatchBool b (Stays s t past now) (Adds limits x.caller x.event x.answer s t past now)
-    → (gained : List Record) × (now ≡ past ++ gained) × (map told gained ≡ (if b then [] else x ∷ []) ++ []) × (length gained ≤ 1)
-by_step true limits x s t past now a = ([], a.history ∙ sym (append-nil past), refl, omega arith)
+    → (gained : List Record) × (now ≡ past ++ gained) × (map told gained ≡ (if b then [] else x ∷ []) ++ [])
+by_step true limits x s t past now a = ([], a.history ∙ sym (append-nil past), refl)
 by_step false limits x s t past now a =
-    (record { caller = x.caller; event = x.event; answer = x.answer; picked = a.picked } ∷ [], a.added, refl, omega arith)
+    (record { caller = x.caller; event = x.event; answer = x.answer; picked = a.picked } ∷ [], a.added, refl)
 
 pub grows_by_step : (limits : Limits) (caller : CallerId) (event : Event) (answer : Answer) (s t : State) (past now : List Record) → Acts limits caller event answer s t past now
     → Grows past now (answered (record { caller = caller; event = event; answer = answer }) ∷ [])
 grows_by_step limits caller event answer s t past now a =
     let r = by_step (is_no_memory answer) limits (record { caller = caller; event = event; answer = answer }) s t past now a in
     (r.0, r.1, r.2)
-
-pub may_gain_by_step : (limits : Limits) (caller : CallerId) (event : Event) (answer : Answer) (s t : State) (past now : List Record) → Acts limits caller event answer s t past now → MayGain past now
-may_gain_by_step limits caller event answer s t past now a =
-    let r = by_step (is_no_memory answer) limits (record { caller = caller; event = event; answer = answer }) s t past now a in
-    (r.0, r.1, r.3)
-
--- where the answer to a step found no memory, its record may be there
-pub may_gain_unanswered : {A E : Type 0} (r : Result A E) (limits : Limits) (caller : CallerId) (event : Event) (answer : Answer) (s t : State) (past now : List Record)
-    → Acts limits caller event answer s t past now → OnErr r (MayGain past now)
-may_gain_unanswered (Ok x) limits caller event answer s t past now a = tt
-may_gain_unanswered (Err e) limits caller event answer s t past now a = may_gain_by_step limits caller event answer s t past now a
 
 -- ---- what a line asks for
 
@@ -70,3 +59,13 @@ tells_answer v n line k text h h' limits caller event answer s t e f g w a = let
   grows = grows_by_step limits caller event answer s t h h' a;
   kind_is = g;
 }
+
+-- where there was no memory to tell the answer
+pub becomes_untold : {A E : Type 0} (r : Result A E) (v : Version) (n : ℕ) (line : List ℕ) (h h' : List Record) (limits : Limits) (caller : CallerId) (event : Event) (answer : Answer) (s t : State)
+    → None ≡ header_at n line → Some (caller, event) ≡ command v line → Acts limits caller event answer s t h h' → OnErr r (MayBecome (asks v n line) h h')
+becomes_untold (Ok x) v n line h h' limits caller event answer s t e f a = tt
+becomes_untold (Err x) v n line h h' limits caller event answer s t e f a = inr (record {
+  outcome = answered (record { caller = caller; event = event; answer = answer });
+  of_line = sym (asks_no_version v n line e ∙ ap (λ o. header_or None o) (sym f));
+  grows = grows_by_step limits caller event answer s t h h' a;
+})

@@ -1,5 +1,5 @@
 -- One line more: its text, its records, its counts.
-use Rattle.std.proofs.Common.{Bool, List, [], ap, append-nil, append_assoc, arith, false, if◌then◌else◌, length, length-append, map, refl, sym, true, ℕ, ◌+◌, ◌++◌, ◌≡◌, ◌∙◌, ◌∷◌}
+use Rattle.std.proofs.Common.{Bool, List, [], ap, append-nil, append_assoc, arith, false, if◌then◌else◌, inl, inr, length, length-append, map, refl, sym, true, ℕ, ◌+◌, ◌++◌, ◌≡◌, ◌∙◌, ◌∷◌}
 use Rattle.std.proofs.lemmas.List.{length-map, map-append}
 use Rattle.ep_base.specs.declared.record.Record.{Record}
 use Rattle.ep_calls.specs.Acts.{is_no_memory}
@@ -11,7 +11,7 @@ use Rattle.ep_version.specs.declared.version.Version.TheVariants.{V1}
 use Rattle.ep_script.specs.Lines.{AllFit, longest_line}
 use Rattle.std.proofs.Common.{◌≤◌}
 use Rattle.ep_script.specs.Outcome.{Gains, Tallies}
-use Rattle.ep_script.specs.Steps.{kind_of}
+use Rattle.ep_script.specs.Steps.{MayBecome, MayGain, kind_of}
 use Rattle.ep_script.specs.Tally.{counted}
 use Rattle.ep_script.specs.Transcript.{AreOf, Asked, Exchange, Grows, Outcome, answered, asked_in, asks, bad, bad_line_count, head, readings, recorded, records, said, then_in, told, transcript, version_after}
 
@@ -127,3 +127,20 @@ few_bad s kind.Bad = omega arith
 few_bad s kind.Head = omega arith
 few_bad s kind.Unrecorded = omega arith
 few_bad s kind.Recorded = omega arith
+
+-- a line makes one record at most
+one_at_most : (b : Bool) (x : Exchange) → length (if b then [] else x ∷ []) ≤ 1
+one_at_most true x = omega arith
+one_at_most false x = omega arith
+
+recorded_few : (o : Outcome) → length (recorded o) ≤ 1
+recorded_few bad = omega arith
+recorded_few (head v) = omega arith
+recorded_few (answered x) = one_at_most (is_no_memory x.answer) x
+
+pub grown_few : (h h' : List Record) (o : Outcome) (g : Grows h h' (o ∷ [])) → length g.0 ≤ 1
+grown_few h h' o g = omega (arith, length-map g.0 told, ap length g.2, ap length (append-nil (recorded o)), recorded_few o)
+
+pub gains_of : (c : Asked) (h h' : List Record) → MayBecome c h h' → MayGain h h'
+gains_of c h h' (inl e) = ([], e ∙ sym (append-nil h), omega arith)
+gains_of c h h' (inr b) = (b.grows.0, b.grows.1, grown_few h h' b.outcome b.grows)

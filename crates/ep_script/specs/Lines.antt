@@ -41,6 +41,10 @@ most_lines = 100000
 abbrev pub most_read : ℕ
 most_read = 65536
 
+-- the most bytes of answers that wait to be written
+abbrev pub most_gathered : ℕ
+most_gathered = 65536
+
 abbrev pub AllFit : List (List ℕ) → Type 0
 AllFit [] = ⊤
 AllFit (l ∷ ls) = (length l ≤ longest_line) × AllFit ls

@@ -46,8 +46,9 @@ pub record Stopped (input : List ℕ) (before written : Option (List ℕ)) (star
   pub grows : GrowsBeyond start history outcomes most
   pub fit : AllFit lines
 
--- the transcript of the first lines was written, and a part of the next line's
-pub record Broken (input : List ℕ) (before written : Option (List ℕ)) (start history : List Record) : Type 0 where
+-- The transcript of the first lines was written but for its last bytes. These are of the last line, and of the lines
+-- before it so many at most.
+pub record Broken (room : ℕ) (input : List ℕ) (before written : Option (List ℕ)) (start history : List Record) : Type 0 where
   pub lines : List (List ℕ)
   pub left : List (List ℕ)
   pub outcomes : List Outcome
@@ -56,21 +57,22 @@ pub record Broken (input : List ℕ) (before written : Option (List ℕ)) (start
   pub of_lines : AreOf (outcomes ++ last ∷ []) lines
   pub part : List ℕ
   pub unwritten : List ℕ
-  pub said_is : said (version_after V1 outcomes) (length outcomes + 1) last ≡ part ++ unwritten
-  pub text : Appends before written (transcript V1 1 outcomes ++ part)
+  pub text_is : transcript V1 1 (outcomes ++ last ∷ []) ≡ part ++ unwritten
+  pub few : length unwritten ≤ room + length (said (version_after V1 outcomes) (length outcomes + 1) last)
+  pub text : Appends before written part
   pub grows : Grows start history (outcomes ++ last ∷ [])
 
--- Only after a want of memory has the history a record that nothing was written of.
-abbrev pub Faulted : ScriptFault → List ℕ → Option (List ℕ) → Option (List ℕ) → List Record → List Record → Type 0
-Faulted fault.Read input before written start history = (left : List (List ℕ)) × Stopped input before written start history 0 left
-Faulted fault.Memory input before written start history = (left : List (List ℕ)) × Stopped input before written start history 1 left
-Faulted (fault.Line number) input before written start history =
+-- Only after a want of memory has the history a record that nothing was written of. So many bytes of answers may wait.
+abbrev pub Faulted : ℕ → ScriptFault → List ℕ → Option (List ℕ) → Option (List ℕ) → List Record → List Record → Type 0
+Faulted room fault.Read input before written start history = (left : List (List ℕ)) × Stopped input before written start history 0 left
+Faulted room fault.Memory input before written start history = (left : List (List ℕ)) × Stopped input before written start history 1 left
+Faulted room (fault.Line number) input before written start history =
     (long : List ℕ) × (left : List (List ℕ)) × (stopped : Stopped input before written start history 0 (long ∷ left))
     × (number ≡ length stopped.lines + 1) × (longest_line < length long)
-Faulted fault.Lines input before written start history =
+Faulted room fault.Lines input before written start history =
     (next : List ℕ) × (left : List (List ℕ)) × (stopped : Stopped input before written start history 0 (next ∷ left))
     × (length stopped.lines ≡ most_lines)
-Faulted fault.Write input before written start history = Broken input before written start history
+Faulted room fault.Write input before written start history = Broken room input before written start history
 
 -- a line of at most so many bytes with its end, and what one read gave behind it
 abbrev pub IsHeldOf : ℕ → List ℕ → Type 0

@@ -31,8 +31,8 @@ abbrev pub WritesPart : Option (List ℕ) → Option (List ℕ) → List Record 
 WritesPart before written start history =
     (gained : List Record) × (history ≡ start ++ gained) × ((n : ℕ) × Appends before written (take n (history_text gained)))
 
--- After a fault of the history each line that was looked at stands answered.
-abbrev pub EndsBy : RecordedFault → List ℕ → Option (List ℕ) → Option (List ℕ) → List Record → List Record → Type 0
-EndsBy (Script fault) input before written start history = Faulted fault input before written start history
-EndsBy History input before written start history = (left : List (List ℕ)) × Stopped input before written start history 0 left
-EndsBy Memory input before written start history = (left : List (List ℕ)) × Stopped input before written start history 0 left
+-- After a fault of the history each line that was looked at stands answered. So many bytes of answers may wait.
+abbrev pub EndsBy : ℕ → RecordedFault → List ℕ → Option (List ℕ) → Option (List ℕ) → List Record → List Record → Type 0
+EndsBy room (Script fault) input before written start history = Faulted room fault input before written start history
+EndsBy room History input before written start history = (left : List (List ℕ)) × Stopped input before written start history 0 left
+EndsBy room Memory input before written start history = (left : List (List ℕ)) × Stopped input before written start history 0 left

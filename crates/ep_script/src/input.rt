@@ -149,4 +149,23 @@ impl Input {
         self.skip(if is_whole { count + 1 } else { count });
         Ok(is_whole)
     }
+
+    /// Puts the next line into `line`, without the byte that ends it, if it is at hand to its end, and says so. Else it
+    /// uses nothing. The error is want of memory for the line.
+    pub(crate) fn take_whole(&mut self, line: &mut Vec<u8>) -> Result<bool, AllocError>
+        ensures whole { IfOk result (λ is_whole. is_whole ≡ true
+            → unread self.old ≡ line.new.items ++ 10 ∷ unread self.new) }
+        ensures plain { IfOk result (λ is_whole. is_whole ≡ true → IsPlain line.new.items) }
+        ensures none { IfOk result (λ is_whole. is_whole ≡ false → self.new ≡ self.old) }
+    {
+        line.clear();
+        let unread = self.unread();
+        let count = plain_front(unread);
+        if count == unread.len() {
+            return Ok(false);
+        }
+        line.extend_from_slice(&unread[..count])?;
+        self.skip(count + 1);
+        Ok(true)
+    }
 }

@@ -1,16 +1,20 @@
 //! Keeps the records of a run, or keeps none.
 ghost use Rattle.std.specs.Io.KnownBytes.{Appends};
 ghost use Rattle.std.specs.Prelude.{◌≡◌, ◌⊎◌, ℕ, Bool, IfErr, IfOk, IsErrOf, List, None, OnErr, OnOk, Option, Some, false, take, true};
+ghost use Rattle.ep_script.specs.Lines.{most_gathered};
 ghost use Rattle.ep_script.specs.Recorded.{line_at, line_if};
 
 use crate::emit::emit;
 use crate::fault::RecordedFault;
 use crate::watched::Watched;
-use ep_base::Record;
 use ep_history::print_record;
 use ep_plain::Kernel;
+use ep_records::Entry;
 use std::alloc::{AllocError, Global};
 use std::io::Write;
+
+/// The most bytes of answers that wait to be written.
+const MOST_GATHERED: usize = 65_536;
 
 /// What keeps the records of a run: a history's writer, or `Nothing`.
 pub(crate) trait Keeper {
@@ -25,6 +29,14 @@ pub(crate) trait Keeper {
 
     /// Whether it can fail at all.
     ghost may_fail: { Bool };
+
+    /// How many bytes of answers may wait.
+    ghost room: { ℕ };
+
+    /// How many bytes of answers may wait while it keeps records. What can fail lets none wait, so that the answers to
+    /// all lines up to its failure stand written, and each record is kept behind its answer.
+    fn room(&self) -> usize
+        ensures { result ≡ room };
 
     /// Keeps the record at this place of the kernel's history, if there is one.
     fn keep<K: Kernel>(
@@ -42,7 +54,8 @@ pub(crate) trait Keeper {
             (take n (line_at place (K.past kernel.now)))) }
         ensures err { IfErr result (λ e. (e ≡ RecordedFault.History) ⊎ (e ≡ RecordedFault.Memory)) }
         ensures err_flag { IsErrOf result RecordedFault.History → failed self.new ≡ true }
-        ensures may { OnErr result (may_fail ≡ true) };
+        ensures may { OnErr result (may_fail ≡ true) }
+        ensures none_waits { OnErr result (room ≡ 0) };
 }
 
 /// Keeps no record.
@@ -58,6 +71,12 @@ impl Keeper for Nothing {
 
     ghost may_fail = { false };
 
+    ghost room = { most_gathered };
+
+    fn room(&self) -> usize {
+        MOST_GATHERED
+    }
+
     fn keep<K: Kernel>(
         &mut self,
         _alloc: Global,
@@ -69,10 +88,10 @@ impl Keeper for Nothing {
 }
 
 /// The line of a record, with its end.
-fn line_of(alloc: Global, entry: &Record) -> Result<Vec<u8>, AllocError>
+fn line_of(alloc: Global, entry: &Entry<'_>) -> Result<Vec<u8>, AllocError>
     ensures { IfOk result (λ line. line.items ≡ line_if (Some entry.now)) }
 {
-    let mut line = print_record(alloc, entry)?;
+    let mut line = print_record(alloc, &entry.copy()?)?;
     line.push(b'\n')?;
     Ok(line)
 }
@@ -87,6 +106,12 @@ impl<H: Write> Keeper for Watched<H> {
 
     ghost may_fail = { true };
 
+    ghost room = { 0 };
+
+    fn room(&self) -> usize {
+        0
+    }
+
     fn keep<K: Kernel>(
         &mut self,
         alloc: Global,
@@ -96,7 +121,7 @@ impl<H: Write> Keeper for Watched<H> {
         let Some(entry) = kernel.history().get(place) else {
             return Ok(());
         };
-        let Ok(line) = line_of(alloc, entry) else {
+        let Ok(line) = line_of(alloc, &entry) else {
             return Err(RecordedFault::Memory);
         };
         match emit(self, line.as_slice()) {

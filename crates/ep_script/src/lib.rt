@@ -5,6 +5,8 @@ mod answer;
 mod chunk;
 mod emit;
 mod fault;
+mod gather;
+mod held;
 mod history_reader;
 mod input;
 mod keep;

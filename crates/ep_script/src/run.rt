@@ -2,7 +2,7 @@
 ghost use Rattle.std.specs.Io.KnownBytes.{prepend_known};
 ghost use Rattle.std.specs.Prelude.{◌≡◌, ◌≤◌, IfErr, IfOk, IfSome, IsErrOf, OnErr, OnOk, false, true};
 ghost use Rattle.ep_script.specs.Known.{Leads};
-ghost use Rattle.ep_script.specs.Lines.{IsPlain};
+ghost use Rattle.ep_script.specs.Lines.{IsPlain, most_gathered};
 ghost use Rattle.ep_script.specs.Outcome.{Cut, Faulted, Gains, IsHeld, Whole};
 ghost use Rattle.ep_script.specs.Recorded.{EndsBy, Writes, WritesPart};
 ghost use Rattle.ep_script.specs.Steps.{IsOfScript};
@@ -10,9 +10,7 @@ ghost use Rattle.ep_script.specs.Steps.{IsOfScript};
 use crate::answer::{Desk, answer_line};
 use crate::chunk::Input;
 use crate::fault::{RecordedFault, ScriptFault};
-use crate::input::LONGEST_LINE;
 use crate::keep::{Keeper, Nothing};
-use crate::next_line::next_line;
 use crate::summary::Summary;
 use crate::watched::Watched;
 use ep_plain::Kernel;
@@ -22,8 +20,10 @@ use std::io::{Read, Write};
 /// The most lines of a script.
 const MOST_LINES: u64 = 100_000;
 
-/// Runs a script on a kernel: answers each line before it asks for the next, with the line that
-/// tells the kernel's answer, or says that the line is no command.
+/// Runs a script on a kernel: answers every line that it has read whole before it asks the reader
+/// for more. An answer is the line that tells what the kernel answered, or says that the line is no
+/// command. While a further whole line is at hand, answers wait to be written together, at most
+/// 65,536 bytes of them.
 ///
 /// A first line that is a header is answered by itself, and names the version of the lines behind it.
 /// Without one that is version 1.
@@ -34,10 +34,13 @@ const MOST_LINES: u64 = 100_000;
 /// answer as any other.
 ///
 /// After `Read`, `Line`, `Lines` and `Memory` the answers to all lines before stand written, and
-/// nothing else; after `Write` a part of the next one may. Of what was read, after `Read` every
-/// line that was read to its end is answered, and after `Memory` all but one line and what one read
-/// of at most 65,536 bytes gave behind it. After `Write` and `Memory` the history may have one
-/// record whose answer is not written whole.
+/// nothing else. After `Write` the first bytes of them do. Those that are missing are of the lines
+/// since the last write: of the last of these lines, and of the others at most 65,536 bytes.
+///
+/// Of what was read, after `Read` every line that was read to its end is answered, and after
+/// `Memory` all but one line and what one read of at most 65,536 bytes gave behind it. After `Write`
+/// the history has the records of all lines since the last write, though their answers are not
+/// written whole. After `Memory` it may have one record whose answer is not written.
 ///
 /// All this is said of a reader that tells its bytes, and what was written of a writer that does.
 /// Of any, the history gained as many records as are counted.
@@ -61,7 +64,7 @@ pub fn run_script<K: Kernel, R: Read, W: Write>(
 
     // How far it came where it did not come to the end.
     ensures fault { IfErr result (λ e. IfSome (R.remaining reader.old.inner) (λ input.
-        Faulted e input (W.contents writer.old.inner) (W.contents writer.new.inner)
+        Faulted most_gathered e input (W.contents writer.old.inner) (W.contents writer.new.inner)
         (K.past kernel.old) (K.past kernel.new))) }
     ensures read { IsErrOf result ScriptFault.Read → Leads
         (R.remaining reader.old.inner) (R.remaining reader.new.inner) (λ input rest.
@@ -86,7 +89,9 @@ pub fn run_script<K: Kernel, R: Read, W: Write>(
 }
 
 /// Runs a script as `run_script` does, and writes each record that it makes to `history`: a line
-/// as `ep_history` prints it, flushed before the next line of the script is looked at.
+/// as `ep_history` prints it, flushed before the next line of the script is looked at. No answer
+/// waits: each is written before its record is. So after `Write` only a part of the last answer is
+/// missing, or all of it.
 ///
 /// Every error of that writer ends the run, and so does a write that takes no byte, or want of
 /// memory for a line of the history: the answers to all lines up to then stand written. Nothing
@@ -119,7 +124,7 @@ pub fn run_recorded<K: Kernel, R: Read, W: Write, H: Write>(
 
     // How far it came where it did not come to the end.
     ensures fault { IfErr result (λ e. IfSome (R.remaining reader.old.inner) (λ input.
-        EndsBy e input (W.contents writer.old.inner) (W.contents writer.new.inner)
+        EndsBy 0 e input (W.contents writer.old.inner) (W.contents writer.new.inner)
         (K.past kernel.old) (K.past kernel.new))) }
     ensures read { IsErrOf result (RecordedFault.Script ScriptFault.Read) → Leads
         (R.remaining reader.old.inner) (R.remaining reader.new.inner) (λ input rest.
@@ -175,7 +180,7 @@ fn run_keeping<K: Kernel, R: Read, W: Write, T: Keeper>(
 
     // How far it came where it did not come to the end.
     ensures fault { IfErr result (λ e. IfSome (R.remaining reader.old.inner) (λ input.
-        EndsBy e input (W.contents writer.old.inner) (W.contents writer.new.inner)
+        EndsBy T.room e input (W.contents writer.old.inner) (W.contents writer.new.inner)
         (K.past kernel.old) (K.past kernel.new))) }
     ensures read { IsErrOf result (RecordedFault.Script ScriptFault.Read) → Leads
         (R.remaining reader.old.inner) (R.remaining reader.new.inner) (λ input rest.
@@ -206,14 +211,17 @@ fn run_keeping<K: Kernel, R: Read, W: Write, T: Keeper>(
         return Err(RecordedFault::Script(ScriptFault::Memory));
     };
     let mut line = Vec::new(alloc);
-    let mut desk = Desk::new(alloc);
+    let mut desk = Desk::new(alloc, keeper.room());
     let mut summary = Summary {
         lines: 0,
         records: 0,
         bad: 0,
     };
     for done in 0..MOST_LINES {
-        match next_line(reader, &mut input, &mut line, done + 1, LONGEST_LINE) {
+        match desk
+            .gathered
+            .read_line(reader, writer, &mut input, &mut line, done + 1)
+        {
             Ok(true) => {}
             Ok(false) => return Ok(summary),
             Err(fault) => return Err(RecordedFault::Script(fault)),
@@ -227,6 +235,10 @@ fn run_keeping<K: Kernel, R: Read, W: Write, T: Keeper>(
             Ok(()) => {}
             Err(fault) => return Err(fault),
         }
+    }
+    match desk.gathered.write_out(writer) {
+        Ok(()) => {}
+        Err(fault) => return Err(RecordedFault::Script(fault)),
     }
     match input.has_more(reader) {
         Ok(false) => Ok(summary),

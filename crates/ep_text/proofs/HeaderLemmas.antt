@@ -5,6 +5,7 @@ use Rattle.std.proofs.lemmas.Bool.{eqb-true, true≢false}
 use Rattle.std.proofs.lemmas.Slice.Eq.{bytes_eq-Decides}
 use Rattle.std.specs.Str.{is_utf8}
 use Rattle.std.proofs.lemmas.Str.{IsUtf8-from_is_utf8, is_utf8-from_IsUtf8}
+use Rattle.std.proofs.lemmas.Option.{none-some}
 use Rattle.serde_json.specs.Data.{Data, Members, array, boolean, member, no_members, null, number, object, string}
 use Rattle.serde_json.specs.Events.{members_len}
 use Rattle.serde_json.specs.Find.{as_object, get, get_member}
@@ -52,14 +53,11 @@ one_header d n m e one has = chosen _ _ _ (ap (λ k. k == 1) (sym e ∙ one)) (a
 apart : (xs ys zs : List ℕ) → bytes_eq xs ys ≡ false → xs ≡ zs → ys ≡ zs → ⊥
 apart xs ys zs differ e f = true≢false (rw ((bytes_eq-Decides xs ys).1 (e ∙ sym f)) at differ)
 
-nothing : {A : Type 0} (x : A) → None ≡ Some x → ⊥
-nothing x e = cc
-
 by_name : (b : Bool) (l : List ℕ) (x d : Data) → bytes_eq (codes "version") l ≡ b → get_member (codes "version") (member l x no_members) ≡ Some d
     → get_member (codes "op") (member l x no_members) ≡ None
 by_name true l x d e here =
     get_member-put_other (codes "op") l x no_members (λ f. apart (codes "version") (codes "op") l refl ((bytes_eq-Decides (codes "version") l).0 e) f)
-by_name false l x d e here = absurd (nothing d (rw (get_member-put_other (codes "version") l x no_members (λ f. true≢false (rw ((bytes_eq-Decides (codes "version") l).1 f) at e))) at here))
+by_name false l x d e here = absurd (none-some d (rw (get_member-put_other (codes "version") l x no_members (λ f. true≢false (rw ((bytes_eq-Decides (codes "version") l).1 f) at e))) at here))
 
 one_name : (ms : Members) (d : Data) → members_len ms ≡ 1 → get_member (codes "version") ms ≡ Some d → get_member (codes "op") ms ≡ None
 one_name no_members d one here = refl
@@ -107,7 +105,7 @@ no_event version line (Some v) e is = subst (λ (c : Option Command). IsNone (op
 no_header_by : (first : Bool) (o : Option Version) (line : List ℕ) (c : Command) → header line ≡ o → as_written line ≡ Some c → None ≡ (if first then header line else None)
 no_header_by false o line c e written = refl
 no_header_by true None line c e written = sym e
-no_header_by true (Some v) line c e written = absurd (nothing c (sym (unwritten line v e) ∙ written))
+no_header_by true (Some v) line c e written = absurd (none-some c (sym (unwritten line v e) ∙ written))
 
 pub no_header_written : (first : Bool) (line : List ℕ) (c : Command) → as_written line ≡ Some c → None ≡ (if first then header line else None)
 no_header_written first line c written = no_header_by first (header line) line c refl written

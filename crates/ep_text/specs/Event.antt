@@ -1,5 +1,5 @@
 -- What a line of a script asks for: a table of its operations, each with its keys.
-use Rattle.std.specs.Prelude.{Err, List, None, Ok, Option, Result, Some, [], bytes_eq, codes, if◌then◌else◌, ok_or, ℕ, ◌∷◌}
+use Rattle.std.specs.Prelude.{Err, List, None, Ok, Option, Result, Some, [], bytes_eq, codes, if◌then◌else◌, ok_or, ℕ, ◌++◌, ◌∷◌}
 use Rattle.std.specs.Option.{option_map}
 use Rattle.std.specs.Result.{result_err, result_ok}
 use Rattle.std.specs.Str.{is_utf8}
@@ -12,6 +12,10 @@ use Rattle.ep_base.specs.declared.call.Event.TheVariants.{Call as CallOf, Resume
 use Rattle.ep_base.specs.declared.ids.CallerId.{CallerId}
 use Rattle.ep_text.specs.declared.key.Key.{Key}
 use Rattle.ep_text.specs.declared.key.Key.TheVariants as key
+use Rattle.ep_text.specs.declared.op.CallOp.{CallOp}
+use Rattle.ep_text.specs.declared.op.CallOp.TheVariants as op
+use Rattle.ep_text.specs.declared.op.Op.{Op}
+use Rattle.ep_text.specs.declared.op.Op.TheVariants as any
 use Rattle.ep_text.specs.declared.reason.Reason.{Reason}
 use Rattle.ep_text.specs.declared.reason.Reason.TheVariants.{NoObject, UnknownOp}
 use Rattle.ep_text.specs.Calls.{close_call, ctl_call, dup2_call, dup_call, epoll_call, eventfd_call}
@@ -27,8 +31,11 @@ use Rattle.ep_text.specs.Reason.{unread}
 use Rattle.ep_text.specs.Header.{without_op}
 use Rattle.ep_version.specs.Version.{event_in}
 
--- its name, its keys beside `op` and `by`, and the event that it asks for
+-- which one it is, its name, its keys beside `op` and `by`, and the event that it asks for
+--
+-- The keys are in the order in which the one is looked for that an unknown key may mean.
 pub record Operation : Type 0 where
+  pub op : Op
   pub name : List ℕ
   pub keys : List Key
   pub asks : Data → Result Event Reason
@@ -42,65 +49,65 @@ by_process meaning d = do
   call ← meaning d
   Ok (CallOf (record { 0 = pid }) call)
 
-abbrev pub call_operation : List ℕ → List Key → (Data → Result Call Reason) → Operation
-call_operation name keys meaning = record { name = name; keys = key.Pid ∷ keys; asks = by_process meaning }
+abbrev pub call_operation : CallOp → List ℕ → List Key → (Data → Result Call Reason) → Operation
+call_operation o name keys meaning = record { op = any.Call o; name = name; keys = keys ++ key.Pid ∷ []; asks = by_process meaning }
 
 abbrev pub pipe_operation : Operation
-pipe_operation = call_operation (codes "pipe") (key.Cloexec ∷ []) pipe_call
+pipe_operation = call_operation op.Pipe (codes "pipe") (key.Cloexec ∷ []) pipe_call
 
 abbrev pub socketpair_operation : Operation
-socketpair_operation = call_operation (codes "socketpair") (key.Cloexec ∷ []) socketpair_call
+socketpair_operation = call_operation op.SocketPair (codes "socketpair") (key.Cloexec ∷ []) socketpair_call
 
 abbrev pub plain_operation : Operation
-plain_operation = call_operation (codes "plain") (key.Cloexec ∷ []) plain_call
+plain_operation = call_operation op.Plain (codes "plain") (key.Cloexec ∷ []) plain_call
 
 abbrev pub epoll_operation : Operation
-epoll_operation = call_operation (codes "epoll") (key.Cloexec ∷ []) epoll_call
+epoll_operation = call_operation op.Epoll (codes "epoll") (key.Cloexec ∷ []) epoll_call
 
 abbrev pub eventfd_operation : Operation
-eventfd_operation = call_operation (codes "eventfd") (key.Init ∷ key.Sem ∷ key.Cloexec ∷ []) eventfd_call
+eventfd_operation = call_operation op.EventFd (codes "eventfd") (key.Init ∷ key.Sem ∷ key.Cloexec ∷ []) eventfd_call
 
 abbrev pub timerfd_operation : Operation
-timerfd_operation = call_operation (codes "timerfd") (key.Clock ∷ key.Cloexec ∷ []) timerfd_call
+timerfd_operation = call_operation op.TimerFd (codes "timerfd") (key.Clock ∷ key.Cloexec ∷ []) timerfd_call
 
 abbrev pub ctl_operation : Operation
-ctl_operation = call_operation (codes "ctl") (key.Ep ∷ key.Fd ∷ key.Act ∷ key.Mask ∷ key.Data ∷ []) ctl_call
+ctl_operation = call_operation op.Ctl (codes "ctl") (key.Ep ∷ key.Fd ∷ key.Act ∷ key.Mask ∷ key.Data ∷ []) ctl_call
 
 abbrev pub wait_operation : Operation
-wait_operation = call_operation (codes "wait") (key.Ep ∷ key.Max ∷ key.Timeout ∷ []) wait_call
+wait_operation = call_operation op.Wait (codes "wait") (key.Ep ∷ key.Max ∷ key.Timeout ∷ []) wait_call
 
 abbrev pub read_operation : Operation
-read_operation = call_operation (codes "read") (key.Fd ∷ key.N ∷ []) read_call
+read_operation = call_operation op.Read (codes "read") (key.Fd ∷ key.N ∷ []) read_call
 
 abbrev pub write_operation : Operation
-write_operation = call_operation (codes "write") (key.Fd ∷ key.Hex ∷ key.Fill ∷ []) write_call
+write_operation = call_operation op.Write (codes "write") (key.Fd ∷ key.Hex ∷ key.Fill ∷ []) write_call
 
 abbrev pub shutdown_operation : Operation
-shutdown_operation = call_operation (codes "shutdown") (key.Fd ∷ []) shutdown_call
+shutdown_operation = call_operation op.Shutdown (codes "shutdown") (key.Fd ∷ []) shutdown_call
 
 abbrev pub gettime_operation : Operation
-gettime_operation = call_operation (codes "gettime") (key.Fd ∷ []) gettime_call
+gettime_operation = call_operation op.GetTime (codes "gettime") (key.Fd ∷ []) gettime_call
 
 abbrev pub settime_operation : Operation
-settime_operation = call_operation (codes "settime") (key.Fd ∷ key.Value ∷ key.Interval ∷ key.Abs ∷ []) settime_call
+settime_operation = call_operation op.SetTime (codes "settime") (key.Fd ∷ key.Value ∷ key.Interval ∷ key.Abs ∷ []) settime_call
 
 abbrev pub dup_operation : Operation
-dup_operation = call_operation (codes "dup") (key.Fd ∷ []) dup_call
+dup_operation = call_operation op.Dup (codes "dup") (key.Fd ∷ []) dup_call
 
 abbrev pub dup2_operation : Operation
-dup2_operation = call_operation (codes "dup2") (key.Fd ∷ key.To ∷ []) dup2_call
+dup2_operation = call_operation op.Dup2 (codes "dup2") (key.Fd ∷ key.To ∷ []) dup2_call
 
 abbrev pub close_operation : Operation
-close_operation = call_operation (codes "close") (key.Fd ∷ []) close_call
+close_operation = call_operation op.Close (codes "close") (key.Fd ∷ []) close_call
 
 abbrev pub fork_operation : Operation
-fork_operation = call_operation (codes "fork") [] fork_call
+fork_operation = call_operation op.Fork (codes "fork") [] fork_call
 
 abbrev pub exec_operation : Operation
-exec_operation = call_operation (codes "exec") [] exec_call
+exec_operation = call_operation op.Exec (codes "exec") [] exec_call
 
 abbrev pub exit_operation : Operation
-exit_operation = call_operation (codes "exit") [] exit_call
+exit_operation = call_operation op.Exit (codes "exit") [] exit_call
 
 abbrev pub call_operations : List Operation
 call_operations =
@@ -117,14 +124,14 @@ tick_event d = do
 
 -- it is of no process
 abbrev pub tick_operation : Operation
-tick_operation = record { name = codes "tick"; keys = key.N ∷ []; asks = tick_event }
+tick_operation = record { op = any.Tick; name = codes "tick"; keys = key.N ∷ []; asks = tick_event }
 
 abbrev pub resume_event : Data → Result Event Reason
 resume_event d = Ok Resume
 
 -- it is of the process in which its caller is parked, so no line names one
 abbrev pub resume_operation : Operation
-resume_operation = record { name = codes "resume"; keys = []; asks = resume_event }
+resume_operation = record { op = any.Resume; name = codes "resume"; keys = []; asks = resume_event }
 
 abbrev pub operations : List Operation
 operations = tick_operation ∷ resume_operation ∷ call_operations
@@ -155,7 +162,7 @@ command d = do
   members ← ok_or (as_object d) NoObject
   op ← ok_or (get (key_name key.Op) d) (without_op d)
   operation ← operation_in op
-  known ← has_only (key.Op ∷ key.By ∷ operation.keys) members
+  known ← has_only operation.op (key.Op ∷ key.By ∷ operation.keys) members
   asked operation d
 
 abbrev pub reading : List ℕ → Result Command Reason

@@ -4,6 +4,7 @@ use Rattle.std.specs.Prelude.{if◌then◌else◌, ok_or, ℕ, ℤ, ⊤, ◌||�
 use Rattle.serde_json.specs.Data.{Data, Members, member, no_members}
 use Rattle.serde_json.specs.Find.{as_bool, as_str, get}
 use Rattle.ep_text.specs.declared.key.Key.{Key}
+use Rattle.ep_text.specs.declared.op.Op.{Op}
 use Rattle.ep_text.specs.declared.reason.Reason.{Reason}
 use Rattle.ep_text.specs.declared.reason.Reason.TheVariants.{Missing, UnknownKey}
 use Rattle.ep_text.specs.declared.value_kind.ValueKind.{ValueKind}
@@ -72,12 +73,13 @@ abbrev pub first_other : List Key → Members → Option (List ℕ)
 first_other keys no_members = None
 first_other keys (member name d ms) = if is_among keys name then first_other keys ms else Some name
 
-abbrev pub no_other : Option (List ℕ) → Result ⊤ Reason
-no_other None = Ok tt
-no_other (Some name) = Err (UnknownKey name)
+abbrev pub no_other : Op → Option (List ℕ) → Result ⊤ Reason
+no_other op None = Ok tt
+no_other op (Some name) = Err (UnknownKey op name)
 
-abbrev pub has_only : List Key → Members → Result ⊤ Reason
-has_only keys ms = no_other (first_other keys ms)
+-- of an operation that has these keys
+abbrev pub has_only : Op → List Key → Members → Result ⊤ Reason
+has_only op keys ms = no_other op (first_other keys ms)
 
 -- ---- a result
 

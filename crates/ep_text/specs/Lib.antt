@@ -11,5 +11,6 @@ pub mod Bytes
 pub mod Calls
 pub mod Event
 pub mod Ops
+pub mod Nearest
 pub mod Line
 pub mod Limits

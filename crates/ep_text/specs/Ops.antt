@@ -79,7 +79,7 @@ call_of op.Exec = exec_call
 call_of op.Exit = exit_call
 
 abbrev pub call_operation_of : CallOp → Operation
-call_operation_of op = call_operation (name_of op) (keys_of op) (call_of op)
+call_operation_of op = call_operation op (name_of op) (keys_of op) (call_of op)
 
 abbrev pub operation_of : Op → Operation
 operation_of (any.Call op) = call_operation_of op

@@ -1,4 +1,6 @@
 -- Why a line is no JSON text, and why a value is not what its key wants.
+--
+-- `NoJson` has a column, of which nothing is told: it stands as `tt`.
 use Rattle.std.specs.Prelude.{Bool, List, [], bytes_eq, if◌then◌else◌, is_some, take, ℕ, ◌||◌, ◌∷◌}
 use Rattle.serde_json.specs.Data.{Data}
 use Rattle.serde_json.specs.Find.{as_array, as_bool, as_number, as_str}
@@ -13,7 +15,7 @@ byte_order_mark = 239 ∷ 187 ∷ 191 ∷ []
 
 abbrev pub unread : List ℕ → Reason
 unread [] = Empty
-unread (x ∷ xs) = if bytes_eq (take 3 (x ∷ xs)) byte_order_mark then ByteOrderMark else NoJson
+unread (x ∷ xs) = if bytes_eq (take 3 (x ∷ xs)) byte_order_mark then ByteOrderMark else NoJson tt
 
 -- in its range or not
 abbrev pub is_of_kind : ValueKind → Data → Bool

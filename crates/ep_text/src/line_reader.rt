@@ -157,7 +157,7 @@ impl LineReader {
             header_of l ≡ (if is_first then header line.now else None)) }
         ensures command { IfOk result (λ l. command_of l ≡ event version line.now) }
     {
-        if let Some((caller, event)) = self.read_flat(alloc, line)? {
+        if let Some((caller, event)) = self.read_flat_command(alloc, line)? {
             return Ok(Line::Command(caller, event_in(version, event)));
         }
         match self.values.read(alloc, line)? {
@@ -168,7 +168,7 @@ impl LineReader {
 
     /// The command of a line that may well be an object whose values need no memory, with the numbers of the line. Most
     /// lines are. `None` doesn't say that it is no command.
-    fn read_flat(
+    fn read_flat_command(
         &mut self,
         alloc: Global,
         line: &[u8],

@@ -7,7 +7,7 @@ use crate::key::Key;
 
 /// A call of a process.
 #[derive(Clone, Copy, Debug, PartialEq, Eq)]
-pub(crate) enum CallOp {
+pub enum CallOp {
     Pipe,
     SocketPair,
     Plain,
@@ -29,8 +29,9 @@ pub(crate) enum CallOp {
     Exit,
 }
 
+/// What the `op` of a line may name.
 #[derive(Clone, Copy, Debug, PartialEq, Eq)]
-pub(crate) enum Op {
+pub enum Op {
     Call(CallOp),
     Resume,
     Tick,
@@ -64,26 +65,26 @@ impl CallOp {
         }
     }
 
-    /// The keys that it may have, beside `op` and `by`.
+    /// The keys that it may have, beside `op` and `by`, in the order of docs/script.md, and `pid` last.
     fn keys(self) -> &'static [Key]
         ensures { result.now ≡ (call_operation_of self).keys }
     {
         match self {
             CallOp::Pipe | CallOp::SocketPair | CallOp::Plain | CallOp::Epoll => {
-                &[Key::Pid, Key::Cloexec]
+                &[Key::Cloexec, Key::Pid]
             }
-            CallOp::EventFd => &[Key::Pid, Key::Init, Key::Sem, Key::Cloexec],
-            CallOp::TimerFd => &[Key::Pid, Key::Clock, Key::Cloexec],
-            CallOp::Ctl => &[Key::Pid, Key::Ep, Key::Fd, Key::Act, Key::Mask, Key::Data],
-            CallOp::Wait => &[Key::Pid, Key::Ep, Key::Max, Key::Timeout],
-            CallOp::Read => &[Key::Pid, Key::Fd, Key::N],
-            CallOp::Write => &[Key::Pid, Key::Fd, Key::Hex, Key::Fill],
+            CallOp::EventFd => &[Key::Init, Key::Sem, Key::Cloexec, Key::Pid],
+            CallOp::TimerFd => &[Key::Clock, Key::Cloexec, Key::Pid],
+            CallOp::Ctl => &[Key::Ep, Key::Fd, Key::Act, Key::Mask, Key::Data, Key::Pid],
+            CallOp::Wait => &[Key::Ep, Key::Max, Key::Timeout, Key::Pid],
+            CallOp::Read => &[Key::Fd, Key::N, Key::Pid],
+            CallOp::Write => &[Key::Fd, Key::Hex, Key::Fill, Key::Pid],
             CallOp::Shutdown | CallOp::GetTime | CallOp::Dup | CallOp::Close => {
-                &[Key::Pid, Key::Fd]
+                &[Key::Fd, Key::Pid]
             }
-            CallOp::Dup2 => &[Key::Pid, Key::Fd, Key::To],
+            CallOp::Dup2 => &[Key::Fd, Key::To, Key::Pid],
             CallOp::Fork | CallOp::Exec | CallOp::Exit => &[Key::Pid],
-            CallOp::SetTime => &[Key::Pid, Key::Fd, Key::Value, Key::Interval, Key::Abs],
+            CallOp::SetTime => &[Key::Fd, Key::Value, Key::Interval, Key::Abs, Key::Pid],
         }
     }
 }
@@ -99,7 +100,7 @@ impl Op {
         }
     }
 
-    /// The keys that it may have, beside `op` and `by`.
+    /// The keys that it may have, beside `op` and `by`, in the order of docs/script.md, and `pid` last.
     pub(crate) fn keys(self) -> &'static [Key]
         ensures { result.now ≡ (operation_of self).keys }
     {

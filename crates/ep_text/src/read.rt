@@ -3,6 +3,7 @@ ghost use Rattle.std.specs.Prelude.{◌≡◌, ◌↔◌, IfOk, IsNone, IsSome};
 ghost use Rattle.serde_json.specs.View.{view};
 ghost use Rattle.ep_text.specs.Event.{asked, by_process, command, event, operation_in, reading, reason, tick_event};
 ghost use Rattle.ep_text.specs.Keys.{ok_map};
+ghost use Rattle.ep_text.specs.declared.reason.Reason.TheVariants.{UnknownKey};
 ghost use Rattle.ep_text.specs.Ops.{call_of, operation_of};
 ghost use Rattle.ep_text.specs.Source.{found_data, source_data};
 ghost use Rattle.ep_version.specs.declared.version.Version.{Version};
@@ -91,6 +92,13 @@ pub(crate) fn operation_in(
     }
 }
 
+fn unknown_key(alloc: Global, op: Op, name: &str) -> Result<Reason, AllocError>
+    ensures { IfOk result (λ r. r ≡ UnknownKey (operation_of op).op name.now) }
+{
+    let name = Name::new(alloc, name)?;
+    Ok(Reason::UnknownKey { op, name })
+}
+
 #[tactic(auto, unfolding(crate::specs::Event::command))]
 pub(crate) fn command(
     alloc: Global,
@@ -110,7 +118,7 @@ pub(crate) fn command(
         Err(reason) => return Ok(Err(reason)),
     };
     match first_other(op.keys(), members) {
-        Some(name) => Ok(Err(Reason::UnknownKey(Name::new(alloc, name)?))),
+        Some(name) => Ok(Err(unknown_key(alloc, op, name)?)),
         None => asked(alloc, op, &line),
     }
 }
@@ -124,7 +132,7 @@ fn reading(alloc: Global, line: &[u8]) -> Result<Result<(CallerId, Event), Reaso
             return if error.is_memory() {
                 Err(AllocError)
             } else {
-                Ok(Err(unread(line)))
+                Ok(Err(unread(line, &error)))
             };
         }
     };

@@ -4,6 +4,8 @@ ghost use Rattle.ep_text.specs.Reason.{unfit, unread};
 ghost use Rattle.ep_text.specs.Source.{found_data};
 
 use crate::key::Key;
+use crate::nearest::{nearest_key, nearest_operation};
+use crate::op::Op;
 use crate::source::Found;
 use crate::value_kind::ValueKind;
 use std::alloc::{AllocError, Global};
@@ -40,6 +42,40 @@ impl Name {
     }
 }
 
+/// The column at which a line breaks, counted in bytes from 1. It is one behind the last byte of a line that only ends
+/// too soon. Contracts say nothing of it: they see no more than that there is one.
+#[derive(Drop)]
+pub struct Column {
+    number: usize,
+}
+
+impl Model for Column {
+    ghost use Rattle.std.specs.Prelude.{⊤};
+
+    ghost Value = { ⊤ };
+
+    ghost view = { λ _. tt };
+}
+
+impl Column {
+    /// Where `serde_json` found this line to be no JSON.
+    fn of(error: &serde_json::Error, line: &[u8]) -> Column {
+        let end = line.len().saturating_add(1);
+        let number = if error.is_eof() {
+            end
+        } else {
+            error.column().clamp(1, end)
+        };
+        Column { number }
+    }
+}
+
+impl Display for Column {
+    fn fmt<W: Write>(&self, f: &mut Formatter<W>) -> fmt::Result {
+        write!(f, "{}", self.number)
+    }
+}
+
 /// A line that is a command.
 const EXAMPLE: &str = "{\"op\":\"pipe\"}";
 
@@ -50,8 +86,8 @@ pub enum Reason {
     Empty,
     /// It is no JSON text, since it begins with a byte order mark.
     ByteOrderMark,
-    /// It is no JSON text.
-    NoJson,
+    /// It is no JSON text, which shows in this column.
+    NoJson(Column),
     /// It is JSON, but no object.
     NoObject,
     /// It names a version, as only the first line of a script can.
@@ -67,7 +103,7 @@ pub enum Reason {
     /// `op` is a text, but names no operation.
     UnknownOp(Name),
     /// The operation does not have this key.
-    UnknownKey(Name),
+    UnknownKey { op: Op, name: Name },
     /// A write has neither `hex` nor `fill`.
     NeitherHexNorFill,
     /// A write has both.
@@ -75,7 +111,7 @@ pub enum Reason {
 }
 
 /// Why a line that is no JSON text is none.
-pub(crate) fn unread(line: &[u8]) -> Reason
+pub(crate) fn unread(line: &[u8], error: &serde_json::Error) -> Reason
     ensures { result ≡ unread line.now }
 {
     if line.is_empty() {
@@ -83,7 +119,7 @@ pub(crate) fn unread(line: &[u8]) -> Reason
     } else if line.starts_with(b"\xef\xbb\xbf") {
         Reason::ByteOrderMark
     } else {
-        Reason::NoJson
+        Reason::NoJson(Column::of(error, line))
     }
 }
 
@@ -98,13 +134,24 @@ pub(crate) fn unfit(value: &Found<'_>, key: Key, kind: ValueKind) -> Reason
     }
 }
 
+/// Asks whether this name was meant, if one is near.
+fn suggest<W: Write>(f: &mut Formatter<W>, near: Option<&str>) -> fmt::Result {
+    match near {
+        Some(name) => write!(f, "; did you mean \"{name}\"?"),
+        None => Ok(()),
+    }
+}
+
 impl Display for Reason {
     /// The reason in words, on one line: a name has what would end the line escaped.
     fn fmt<W: Write>(&self, f: &mut Formatter<W>) -> fmt::Result {
         match self {
             Reason::Empty => write!(f, "empty"),
             Reason::ByteOrderMark => write!(f, "it begins with a byte order mark"),
-            Reason::NoJson => write!(f, "no JSON: a line is one object, as {EXAMPLE}"),
+            Reason::NoJson(column) => write!(
+                f,
+                "no JSON at column {column}: a line is one object, as {EXAMPLE}"
+            ),
             Reason::NoObject => write!(f, "no object, as {EXAMPLE} is one"),
             Reason::LateHeader => write!(f, "a version can stand only in the first line"),
             Reason::UnknownVersion => {
@@ -122,8 +169,14 @@ impl Display for Reason {
                     kind.words()
                 )
             }
-            Reason::UnknownOp(name) => write!(f, "unknown op {:?}", name.as_str()),
-            Reason::UnknownKey(name) => write!(f, "unknown key {:?}", name.as_str()),
+            Reason::UnknownOp(name) => {
+                write!(f, "unknown op {:?}", name.as_str())?;
+                suggest(f, nearest_operation(name.as_str()))
+            }
+            Reason::UnknownKey { op, name } => {
+                write!(f, "unknown key {:?}", name.as_str())?;
+                suggest(f, nearest_key(*op, name.as_str()))
+            }
             Reason::NeitherHexNorFill => write!(f, "key \"hex\" or \"fill\" is missing"),
             Reason::HexAndFill => write!(f, "keys \"hex\" and \"fill\" are both there"),
         }

@@ -203,14 +203,19 @@ fn ends_at_a_write_that_fails_after_each_byte(rt: HostRuntime) -> Result<(), Fai
     Ok(())
 }
 
-// An answer is flushed whole, so what was taken ends with the line in which the last of these bytes stands.
+// An answer is flushed whole, so what was taken ends with the line in which the last of these bytes stands. If the
+// whole script came at once, all answers are flushed at once.
 #[test]
 fn ends_at_a_flush_that_fails_after_each_byte(rt: HostRuntime) -> Result<(), Fail> {
     for kernel in KERNELS {
         for room in 1..=ANSWERS.len() {
             let before = ANSWERS.get(..room.saturating_sub(1)).unwrap_or(ANSWERS);
             let lines = lines_ended(before).saturating_add(1);
-            expect_unwritten(&rt, kernel, room, Failure::Flush, answers_to(lines))?;
+            let taken = match width(room) {
+                usize::MAX => ANSWERS,
+                _ => answers_to(lines),
+            };
+            expect_unwritten(&rt, kernel, room, Failure::Flush, taken)?;
         }
     }
     Ok(())

@@ -14,7 +14,7 @@ const SCRIPT: &str = "{\"version\":2}\n\n{\"op\":\"pip\"}\n";
 const ANSWERS: &str = "{\"version\":2}\n{\"bad\":2}\n{\"bad\":3}\n";
 
 const REASONS: &str = "epsim: line 2: empty
-epsim: line 3: unknown op \"pip\"
+epsim: line 3: unknown op \"pip\"; did you mean \"pipe\"?
 epsim: 2 of 3 lines were no command
 ";
 

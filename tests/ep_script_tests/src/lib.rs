@@ -15,6 +15,8 @@ mod sizes;
 #[cfg(test)]
 mod stand_ins;
 #[cfg(test)]
+mod waits;
+#[cfg(test)]
 mod watched;
 #[cfg(test)]
 mod words;

@@ -2,6 +2,7 @@
 
 use crate::stand_ins::{Failure, Narrow, NoMemory, Pieces};
 use ep_base::Limits;
+use ep_records::History;
 use ep_script::{ScriptFault, Summary, Watched, run_script};
 use std::alloc::{AllocError, Global};
 use std::process::Abort;
@@ -38,6 +39,7 @@ struct Ran {
 fn run(alloc: Global, reader: Pieces<'_>, writer: Narrow) -> Ran {
     let mut kernel = NoMemory {
         limits: Limits::default(),
+        history: History::new(alloc),
     };
     let mut reader = Watched::new(reader);
     let mut writer = Watched::new(writer);
@@ -206,7 +208,7 @@ fn ends_at_a_failed_write_of_a_header(rt: HostRuntime) {
     }
 }
 
-// Each answer is passed on before the next line is asked for.
+// The answers to the three whole lines are passed on before the end of the fourth is asked for.
 #[test]
 fn ends_at_a_failed_flush(rt: HostRuntime) {
     let writer = Narrow {
@@ -218,7 +220,7 @@ fn ends_at_a_failed_flush(rt: HostRuntime) {
     let ran = run(rt.alloc(), whole(SCRIPT), writer);
     assert_eq!(rt; ran.outcome, Err(ScriptFault::Write));
     assert!(rt; ran.writer_failed);
-    assert_eq!(rt; ran.written.as_slice(), NO_MEMORY);
+    assert_eq!(rt; Some(ran.written.as_slice()), ANSWERS.get(..54));
 }
 
 /// What a run over these bytes and then so many others comes to, and what it writes.

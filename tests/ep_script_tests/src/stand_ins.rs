@@ -4,6 +4,7 @@ ghost use Rattle.ep_machine.specs.State.{opening};
 
 use ep_base::{Answer, CallerId, Errno, Event, Limits, Moment, Record};
 use ep_plain::Kernel;
+use ep_records::History;
 use std::alloc::AllocError;
 use std::io::{self, ErrorKind, Read, Write};
 
@@ -11,6 +12,7 @@ use std::io::{self, ErrorKind, Read, Write};
 #[derive(Drop)]
 pub(crate) struct NoMemory {
     pub(crate) limits: Limits,
+    pub(crate) history: History,
 }
 
 impl Kernel for NoMemory {
@@ -32,8 +34,8 @@ impl Kernel for NoMemory {
         Err(AllocError)
     }
 
-    fn history(&self) -> &[Record] {
-        &[]
+    fn history(&self) -> &History {
+        &self.history
     }
 
     fn limits(&self) -> &Limits {

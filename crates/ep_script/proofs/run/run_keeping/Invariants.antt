@@ -8,8 +8,9 @@ use Rattle.ep_script.proofs.run.run_keeping.Given as goal
 
 abbrev pub invariant-loop-done : goal.invariant-loop-done
 invariant-loop-done g l = record {
-  ran : Ran (g.R.Read.remaining l.fn.reader.inner) (prepend_known (unread l.input) (g.R.Read.remaining l.reader.inner)) (g.W.Write.contents l.fn.writer.inner) (g.W.Write.contents l.writer.inner)
+  ran : Ran (g.R.Read.remaining l.fn.reader.inner) (prepend_known (unread l.input) (g.R.Read.remaining l.reader.inner)) (g.W.Write.contents l.fn.writer.inner) (g.W.Write.contents l.writer.inner) l.desk.gathered.bytes.items
       (g.K.Kernel.past l.fn.kernel) (g.K.Kernel.past l.kernel) l.desk.version l.summary;
+  room : l.desk.gathered.room ≡ g.T.Keeper.room;
   gains : Gains (g.K.Kernel.past l.fn.kernel) (g.K.Kernel.past l.kernel) l.summary.records;
   lines : l.summary.lines ≡ l.done;
   records : l.summary.records ≤ l.done;

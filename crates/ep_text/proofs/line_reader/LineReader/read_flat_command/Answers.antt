@@ -8,7 +8,7 @@ use Rattle.ep_json.specs.Text.{whole}
 use Rattle.ep_text.specs.Event.{command}
 use Rattle.ep_text.specs.Source.{flat_data}
 use Rattle.ep_text.proofs.ReadLemmas.{command_read}
-use Rattle.ep_text.proofs.line_reader.LineReader.read_flat.Goals as goal
+use Rattle.ep_text.proofs.line_reader.LineReader.read_flat_command.Goals as goal
 
 pub returns : goal.returns
 returns c =
