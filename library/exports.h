@@ -30,6 +30,12 @@ struct ep_report {
     uint32_t events;
     uint64_t tag;
 };
+struct ep_watch {
+    uint64_t tag, reported_in;
+    uint32_t reported_to;
+    int32_t fd;
+    uint32_t mask, shown, is_armed, is_reportable;
+};
 enum {
     EP_PIPE = 1, EP_EVENTFD, EP_TIMERFD, EP_SOCKETPAIR, EP_PLAIN, EP_CREATE, EP_CTL, EP_WAIT, EP_READ, EP_WRITE,
     EP_SHUTDOWN, EP_SETTIME, EP_GETTIME, EP_DUP, EP_DUP2, EP_CLOSE, EP_FORK, EP_EXEC, EP_EXIT, EP_RESUME, EP_TICK
@@ -48,6 +54,10 @@ int32_t ep_is_parked(struct ep_handle *handle, uint32_t caller);
 int32_t ep_is_marked(struct ep_handle *handle, uint32_t caller);
 int32_t ep_first_marked(struct ep_handle *handle, uint32_t *caller);
 int32_t ep_next_moment(struct ep_handle *handle, uint64_t *moment);
+int32_t ep_watches(struct ep_handle *handle, uint64_t pid, int32_t fd, struct ep_watch *room, size_t room_length,
+                   size_t *count);
+int32_t ep_watches_awaited(struct ep_handle *handle, uint32_t caller, struct ep_watch *room, size_t room_length,
+                           size_t *count);
 int32_t ep_records(struct ep_handle *handle, size_t *count);
 int32_t ep_recorded(struct ep_handle *handle, size_t place, struct ep_reply *reply, uint8_t *bytes, size_t bytes_length,
                     struct ep_report *reports, size_t reports_length);

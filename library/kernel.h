@@ -58,11 +58,19 @@ struct exchange {
     size_t reports;
 };
 
+/* Takes the lock for a call, and lets go of it. */
+void kernel_enter(struct nippersage_kernel *kernel);
+void kernel_leave(struct nippersage_kernel *kernel);
+
 /* One event, under the lock. */
 int64_t kernel_make(struct nippersage_task task, struct exchange *x);
 
 /* Room for the reports of a wait, under the lock: 1, or 0 for want of memory. */
 int kernel_has_reports(struct nippersage_kernel *kernel, size_t most);
+
+/* As nippersage_watches_awaited, under the lock. */
+int kernel_watches_awaited(struct nippersage_kernel *kernel, uint32_t caller, struct nippersage_watch *watches,
+                           int room);
 
 /* Moves the clock to the next moment, under the lock, as a call of this task; 0 if no tick has an effect. */
 int kernel_go_on(struct nippersage_task task, int64_t *result);

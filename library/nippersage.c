@@ -20,12 +20,12 @@
 
 _Static_assert(NIPPERSAGE_PARKED == EP_PARKED, "a wait by hand hands the answer of the export on");
 
-static void enter(struct nippersage_kernel *kernel) {
+void kernel_enter(struct nippersage_kernel *kernel) {
     atomic_fetch_add(&kernel->inside, 1);
     pthread_mutex_lock(&kernel->lock);
 }
 
-static void leave(struct nippersage_kernel *kernel) {
+void kernel_leave(struct nippersage_kernel *kernel) {
     atomic_fetch_sub(&kernel->inside, 1);
     if (kernel->asleep > 0) pthread_cond_broadcast(&kernel->changed);
     pthread_mutex_unlock(&kernel->lock);
@@ -62,11 +62,11 @@ int64_t kernel_make(struct nippersage_task task, struct exchange *x) {
 static int enter_in_turn(struct nippersage_task task) {
     struct turns *turns;
     int status = 0;
-    enter(task.kernel);
+    kernel_enter(task.kernel);
     turns = task.kernel->turns;
     if (turns && turns->order && !turns->is_over) status = order_may_stand(turns->order, task, turns_is_mine(turns));
     if (status == 0 && turns && (turns->order || task.kernel->tasks > 0)) status = turns_stand(turns, task.caller, 0);
-    if (status < 0) leave(task.kernel);
+    if (status < 0) kernel_leave(task.kernel);
     return status;
 }
 
@@ -77,7 +77,7 @@ int nippersage_shared(struct nippersage_task task, const char *what) {
     status = enter_in_turn(task);
     if (status < 0) return status;
     if (task.kernel->order) status = order_share(task.kernel->order, task, what);
-    leave(task.kernel);
+    kernel_leave(task.kernel);
     return status;
 }
 
@@ -88,7 +88,7 @@ static int64_t ask(struct nippersage_task task, struct exchange *x) {
     result = enter_in_turn(task);
     if (result < 0) return result;
     result = kernel_make(task, x);
-    leave(task.kernel);
+    kernel_leave(task.kernel);
     return result;
 }
 
@@ -449,7 +449,7 @@ static int start_by_hand(struct nippersage_task task, int epfd, struct epoll_eve
     result = enter_in_turn(task);
     if (result < 0) return result;
     result = start(task, epfd, events, maxevents, timeout);
-    leave(task.kernel);
+    kernel_leave(task.kernel);
     return result;
 }
 
@@ -471,7 +471,7 @@ int nippersage_resume(struct nippersage_task task, struct epoll_event *events, i
     result = enter_in_turn(task);
     if (result < 0) return result;
     result = resume(task, events, maxevents);
-    leave(task.kernel);
+    kernel_leave(task.kernel);
     return result;
 }
 
@@ -562,7 +562,7 @@ static int wait_for(struct nippersage_task task, int epfd, struct epoll_event *e
         else if (result == EP_PARKED && !(kernel->order && order_is_by_turn(kernel->order)))
             result = sleep_in_wait(task, events, maxevents);
     }
-    leave(kernel);
+    kernel_leave(kernel);
     return result;
 }
 
@@ -581,14 +581,14 @@ int nippersage_epoll_pwait2(struct nippersage_task task, int epfd, struct epoll_
 int nippersage_tasks(struct nippersage_kernel *kernel, int more) {
     int result = 0;
     if (!kernel) return -EINVAL;
-    enter(kernel);
+    kernel_enter(kernel);
     if (more > INT_MAX - kernel->tasks || more < -kernel->tasks) {
         result = -EINVAL;
     } else {
         kernel->tasks += more;
         if (kernel->turns && !kernel->turns->order) turns_pass(kernel->turns);
     }
-    leave(kernel);
+    kernel_leave(kernel);
     return result;
 }
 
@@ -607,9 +607,9 @@ int nippersage_now(struct nippersage_kernel *kernel, struct timespec *moment) {
     int result;
     if (!kernel) return -EINVAL;
     if (!moment) return -EFAULT;
-    enter(kernel);
+    kernel_enter(kernel);
     result = ep_now(&kernel->handle, &now);
-    leave(kernel);
+    kernel_leave(kernel);
     if (result == 0) *moment = timespec_of(now);
     return result;
 }
@@ -619,9 +619,9 @@ int nippersage_next_moment(struct nippersage_kernel *kernel, struct timespec *mo
     int result;
     if (!kernel) return -EINVAL;
     if (!moment) return -EFAULT;
-    enter(kernel);
+    kernel_enter(kernel);
     result = ep_next_moment(&kernel->handle, &next);
-    leave(kernel);
+    kernel_leave(kernel);
     if (result == 1) *moment = timespec_of(next);
     return result;
 }
@@ -630,27 +630,27 @@ int nippersage_first_marked(struct nippersage_kernel *kernel, uint32_t *caller) 
     int result;
     if (!kernel) return -EINVAL;
     if (!caller) return -EFAULT;
-    enter(kernel);
+    kernel_enter(kernel);
     result = ep_first_marked(&kernel->handle, caller);
-    leave(kernel);
+    kernel_leave(kernel);
     return result;
 }
 
 int nippersage_is_parked(struct nippersage_kernel *kernel, uint32_t caller) {
     int result;
     if (!kernel) return -EINVAL;
-    enter(kernel);
+    kernel_enter(kernel);
     result = ep_is_parked(&kernel->handle, caller);
-    leave(kernel);
+    kernel_leave(kernel);
     return result;
 }
 
 int nippersage_is_marked(struct nippersage_kernel *kernel, uint32_t caller) {
     int result;
     if (!kernel) return -EINVAL;
-    enter(kernel);
+    kernel_enter(kernel);
     result = ep_is_marked(&kernel->handle, caller);
-    leave(kernel);
+    kernel_leave(kernel);
     return result;
 }
 
@@ -669,10 +669,10 @@ int nippersage_waiters(struct nippersage_kernel *kernel, struct nippersage_waite
     int count;
     if (!kernel || room < 0) return -EINVAL;
     if (!waiters && room > 0) return -EFAULT;
-    enter(kernel);
+    kernel_enter(kernel);
     count = (int)kernel->parked_count;
     for (int i = 0; i < count && i < room; i++) waiters[i] = waiter_of(&kernel->parked[i]);
-    leave(kernel);
+    kernel_leave(kernel);
     return count;
 }
 
@@ -681,9 +681,9 @@ int nippersage_waiters(struct nippersage_kernel *kernel, struct nippersage_waite
 int nippersage_reserve(struct nippersage_kernel *kernel, size_t events) {
     int result;
     if (!kernel) return -EINVAL;
-    enter(kernel);
+    kernel_enter(kernel);
     result = ep_reserve(&kernel->handle, events);
-    leave(kernel);
+    kernel_leave(kernel);
     return result;
 }
 
@@ -691,18 +691,18 @@ int nippersage_records(struct nippersage_kernel *kernel, size_t *count) {
     int result;
     if (!kernel) return -EINVAL;
     if (!count) return -EFAULT;
-    enter(kernel);
+    kernel_enter(kernel);
     result = ep_records(&kernel->handle, count);
-    leave(kernel);
+    kernel_leave(kernel);
     return result;
 }
 
 int nippersage_check(struct nippersage_kernel *kernel) {
     int result;
     if (!kernel) return -EINVAL;
-    enter(kernel);
+    kernel_enter(kernel);
     result = ep_check(&kernel->handle);
-    leave(kernel);
+    kernel_leave(kernel);
     return result;
 }
 
@@ -753,9 +753,9 @@ static int write_records(struct nippersage_kernel *kernel, int fd) {
 int nippersage_history(struct nippersage_kernel *kernel, int fd) {
     int saved = errno, status;
     if (!kernel) return -EINVAL;
-    enter(kernel);
+    kernel_enter(kernel);
     status = write_records(kernel, fd);
-    leave(kernel);
+    kernel_leave(kernel);
     errno = saved;
     return status;
 }

@@ -81,6 +81,18 @@ struct nippersage_waiter {
     struct timespec timeout; /* as the wait asked for, rounded up to a microsecond */
 };
 
+/* A registration of an instance. */
+struct nippersage_watch {
+    int fd;               /* the number under which it was added; later it may name something else, or nothing */
+    uint32_t events;      /* that it asks for, and its modes */
+    uint64_t data;        /* that its reports give back */
+    uint32_t shown;       /* the bits that hold at its file now, whether it asks for them or not */
+    int is_armed;         /* 0 for a one-shot, from its report to the next EPOLL_CTL_MOD */
+    int is_reportable;    /* 1 if a wait would report it now */
+    uint64_t reported_in; /* the event of its last report, by its place in the history from 1 on; 0 if never reported */
+    uint32_t reported_to; /* the caller that got that report */
+};
+
 /* What a wait by hand answers while its caller is parked. It is no error number. */
 #define NIPPERSAGE_PARKED (-4096)
 
@@ -181,6 +193,17 @@ int nippersage_is_marked(struct nippersage_kernel *kernel, uint32_t caller);
  * many are parked, which may be more. A caller counts until its wait was resumed. -EINVAL for room below 0. */
 int nippersage_waiters(struct nippersage_kernel *kernel, struct nippersage_waiter *waiters, int room);
 
+/* Tells the registrations of an instance in the order in which they were added, as many as have room. How many there
+ * are, which may be more. It is no call: the history stays, and a parked caller may be the one who asks. Each registration
+ * of the instance is visited. -EBADF where the number names nothing, or the process isn't there, -EINVAL where it names
+ * no instance, and for room below 0, -ENOMEM. */
+int nippersage_watches(struct nippersage_task task, int epfd, struct nippersage_watch *watches, int room);
+
+/* The same of the instance at which a caller is parked, whether a descriptor still names it or not. -EINVAL where the
+ * caller isn't parked. */
+int nippersage_watches_awaited(struct nippersage_kernel *kernel, uint32_t caller, struct nippersage_watch *watches,
+                               int room);
+
 /* read(2), write(2), readv(2), writev(2). At most 0x7ffff000 bytes go in one call, as on Linux. -EAGAIN, -EPIPE; no
  * signal. */
 ssize_t nippersage_read(struct nippersage_task task, int fd, void *bytes, size_t count);
@@ -273,14 +296,6 @@ enum nippersage_how {
     NIPPERSAGE_EVERY,      /* every order, depth first */
     NIPPERSAGE_RANDOM,     /* by chance: the n-th depends on the seed and n only */
     NIPPERSAGE_PCT         /* priorities by chance, which change at `depth` - 1 turns */
-};
-
-/* A registration that somebody sleeps beside. */
-struct nippersage_watch {
-    int fd;
-    uint32_t events; /* that it asks for */
-    uint64_t data;
-    uint32_t shown; /* by its file */
 };
 
 /* All 0 is what is meant if nothing is said. */

@@ -194,16 +194,10 @@ struct named {
     int fd, file, is_cloexec;
 };
 
-enum { UNCLEAR = -2, UNKNOWN = -1 };
-
+/* A registration, and what the kernel tells of it at the end, if somebody sleeps there. */
 struct watch {
     int instance, fd, file;
-    uint32_t mask;
-    uint64_t data;
-    int is_armed;          /* 1, 0 or UNKNOWN */
-    int64_t shown;         /* the bits that its file shows, or UNKNOWN */
-    int64_t told;          /* the turn of its last report, 0, or UNCLEAR */
-    int told_by;
+    struct nippersage_watch told;
 };
 
 struct sleeping {
@@ -218,8 +212,13 @@ struct tables {
     size_t watches_count, watches_room;
     struct sleeping *asleep;
     size_t asleep_count, asleep_room;
-    int files, has_exclusive, lacks;
-    int64_t turn;
+    int files, lacks;
+};
+
+/* A turn by its place from 1 on, and whose it was; 0 is before the first one. */
+struct turn {
+    size_t place;
+    int number;
 };
 
 void tables_build(struct tables *tables, const struct steps *steps);
@@ -227,9 +226,10 @@ const struct named *tables_name(const struct tables *tables, int file, uint64_t 
 int tables_has_name(const struct tables *tables, uint64_t pid, int fd, int file);
 int tables_is_alive(const struct tables *tables, int file);
 const struct sleeping *tables_sleeper(const struct tables *tables, int number);
-/* Asks what the files of these registrations show. */
+/* Asks the kernel about the registrations beside which tasks sleep. */
 void tables_ask(struct tables *tables, struct nippersage_kernel *kernel);
-int64_t tables_shown(const struct tables *tables, struct nippersage_kernel *kernel, int file);
+/* The turn of an event, by its place in the history from 1 on. */
+struct turn turn_of(const struct steps *steps, uint64_t record);
 void tables_free(struct tables *tables);
 
 /* ---- one order ---- */

@@ -1,14 +1,12 @@
-/* Which descriptor names which file, and what each instance watches, by the calls that were made. The kernel doesn't
- * tell this. But every call goes by here with its answer, and docs/calls.md says what a call does to descriptors and
- * registrations. So dup, close, fork and numbers that are given out again are followed. What calls don't tell is which
- * of several registrations with the same data a report was of. */
+/* Which descriptor names which file, and which files each instance watches, by the calls that were made. The kernel
+ * doesn't tell this. But every call goes by here with its answer, and docs/calls.md says what a call does to descriptors
+ * and registrations. So dup, close, fork and numbers that are given out again are followed. What a registration shows,
+ * whether it is armed, and when it was reported last, the kernel tells. */
 #include "orders.h"
 
+#include <errno.h>
 #include <stdlib.h>
 #include <string.h>
-
-/* The caller of the explorer's own questions. */
-#define ASKER UINT32_MAX
 
 static struct named *name_at(const struct tables *tables, uint64_t pid, int fd) {
     for (size_t i = 0; i < tables->names_count; i++)
@@ -82,73 +80,33 @@ static void change_watch(struct tables *tables, const struct step *step) {
     const struct ep_request *request = &step->request;
     int instance = file_at(tables, request->pid, request->fd), file = file_at(tables, request->pid, request->target);
     size_t place = watch_place(tables, instance, request->target, file);
-    struct watch watch = {.instance = instance, .fd = request->target, .file = file, .mask = request->count,
-                          .data = request->value, .is_armed = 1, .shown = UNKNOWN, .told_by = NOBODY};
-    int is_there = place < tables->watches_count;
-    if (request->number == EPOLL_CTL_DEL) {
-        if (!is_there) return;
+    if (request->number == EPOLL_CTL_DEL && place < tables->watches_count) {
         tables->watches_count--;
         memmove(&tables->watches[place], &tables->watches[place + 1],
                 (tables->watches_count - place) * sizeof *tables->watches);
-        return;
-    }
-    tables->has_exclusive |= (request->count & EPOLLEXCLUSIVE) != 0;
-    if (is_there) {
-        watch.told = tables->watches[place].told;
-        watch.told_by = tables->watches[place].told_by;
-    } else if (!has_place((void **)&tables->watches, place, &tables->watches_room, sizeof *tables->watches)) {
-        tables->lacks = 1;
-        return;
-    } else {
-        tables->watches_count++;
-    }
-    tables->watches[place] = watch;
-}
-
-/* How many registrations of an instance have this data. */
-static int with_data(const struct tables *tables, int instance, uint64_t data) {
-    int count = 0;
-    for (size_t i = 0; i < tables->watches_count; i++) {
-        const struct watch *it = &tables->watches[i];
-        count += it->instance == instance && it->data == data && tables_is_alive(tables, it->file);
-    }
-    return count;
-}
-
-static void note_report(struct tables *tables, int number, int instance, uint64_t data) {
-    int is_clear = with_data(tables, instance, data) == 1;
-    for (size_t i = 0; i < tables->watches_count; i++) {
-        struct watch *it = &tables->watches[i];
-        if (it->instance != instance || it->data != data || !tables_is_alive(tables, it->file)) continue;
-        it->told = is_clear ? tables->turn : UNCLEAR;
-        it->told_by = number;
-        if (it->mask & EPOLLONESHOT) it->is_armed = is_clear ? 0 : UNKNOWN;
+    } else if (request->number == EPOLL_CTL_ADD && place == tables->watches_count) {
+        if (has_place((void **)&tables->watches, place, &tables->watches_room, sizeof *tables->watches))
+            tables->watches[tables->watches_count++] =
+                (struct watch){.instance = instance, .fd = request->target, .file = file};
+        else
+            tables->lacks = 1;
     }
 }
 
-static void note_reports(struct tables *tables, const struct steps *steps, const struct step *step, int instance) {
-    for (size_t i = 0; i < (size_t)step->result; i++)
-        note_report(tables, step->number, instance, steps->reports[step->reports + i].tag);
-}
-
-static void note_wait(struct tables *tables, const struct steps *steps, const struct step *step) {
+static void note_wait(struct tables *tables, const struct step *step) {
     int instance = file_at(tables, step->request.pid, step->request.fd);
-    if (step->result >= 0) {
-        note_reports(tables, steps, step, instance);
-    } else if (has_place((void **)&tables->asleep, tables->asleep_count, &tables->asleep_room, sizeof *tables->asleep)) {
+    if (step->result >= 0) return;
+    if (has_place((void **)&tables->asleep, tables->asleep_count, &tables->asleep_room, sizeof *tables->asleep))
         tables->asleep[tables->asleep_count++] =
             (struct sleeping){step->number, instance, step->request.fd, step->request.pid};
-    } else {
+    else
         tables->lacks = 1;
-    }
 }
 
-static void note_resumption(struct tables *tables, const struct steps *steps, const struct step *step) {
+static void note_resumption(struct tables *tables, const struct step *step) {
     for (size_t i = 0; i < tables->asleep_count; i++) {
-        int file = tables->asleep[i].file;
         if (tables->asleep[i].number != step->number) continue;
         tables->asleep[i] = tables->asleep[--tables->asleep_count];
-        note_reports(tables, steps, step, file);
         return;
     }
 }
@@ -180,7 +138,7 @@ static void note_close(struct tables *tables, const struct step *step) {
     if (named) drop_name(tables, (size_t)(named - tables->names));
 }
 
-static void follow(struct tables *tables, const struct steps *steps, const struct step *step) {
+static void follow(struct tables *tables, const struct step *step) {
     if (step->result < 0 && !(step->request.event == EP_WAIT && step->result == EP_PARKED)) return;
     switch (step->request.event) {
     case EP_PIPE: case EP_SOCKETPAIR:
@@ -189,8 +147,8 @@ static void follow(struct tables *tables, const struct steps *steps, const struc
         break;
     case EP_EVENTFD: case EP_TIMERFD: case EP_PLAIN: case EP_CREATE: open_file(tables, step, (int)step->result); break;
     case EP_CTL: change_watch(tables, step); break;
-    case EP_WAIT: note_wait(tables, steps, step); break;
-    case EP_RESUME: note_resumption(tables, steps, step); break;
+    case EP_WAIT: note_wait(tables, step); break;
+    case EP_RESUME: note_resumption(tables, step); break;
     case EP_DUP: case EP_DUP2: note_dup(tables, step); break;
     case EP_CLOSE: note_close(tables, step); break;
     case EP_FORK: note_fork(tables, step); break;
@@ -203,44 +161,52 @@ static void follow(struct tables *tables, const struct steps *steps, const struc
 void tables_build(struct tables *tables, const struct steps *steps) {
     tables->names_count = tables->watches_count = tables->asleep_count = 0;
     tables->files = 1;
-    tables->has_exclusive = tables->lacks = 0;
-    tables->turn = 0;
+    tables->lacks = 0;
     for (int fd = 0; fd < 3; fd++) put_name(tables, (struct named){1, fd, 0, 0});
-    for (size_t i = 0; i < steps->count; i++) {
-        tables->turn += steps->all[i].number >= 0;
-        follow(tables, steps, &steps->all[i]);
+    for (size_t i = 0; i < steps->count; i++) follow(tables, &steps->all[i]);
+}
+
+/* ---- what the kernel tells ---- */
+
+/* Whether the kernel has kept a record of it: it is a call, and it was answered. */
+static int is_recorded(const struct step *step) { return step->request.event != 0 && step->result != -ENOMEM; }
+
+struct turn turn_of(const struct steps *steps, uint64_t record) {
+    struct turn turn = {0, NOBODY};
+    for (size_t i = 0; i < steps->count && record > 0; i++) {
+        turn.place += steps->all[i].number != SETUP;
+        turn.number = steps->all[i].number;
+        if (is_recorded(&steps->all[i])) record--;
+    }
+    return turn;
+}
+
+/* Notes what was told of the registrations of an instance: the kernel tells those that live, in the order in which they
+ * were made, as they stand here. */
+static void note_told(struct tables *tables, int instance, const struct nippersage_watch *told, size_t count) {
+    size_t next = 0;
+    for (size_t i = 0; i < tables->watches_count && next < count; i++) {
+        struct watch *watch = &tables->watches[i];
+        if (watch->instance == instance && tables_is_alive(tables, watch->file)) watch->told = told[next++];
     }
 }
 
-/* ---- what files show ---- */
-
-int64_t tables_shown(const struct tables *tables, struct nippersage_kernel *kernel, int file) {
-    const struct named *named = tables_name(tables, file, 0);
-    struct nippersage_task asker;
-    struct exchange make = {.request = {.event = EP_CREATE}}, add, wait, close;
-    int64_t instance, shown = UNKNOWN;
-    if (!named || !kernel_has_reports(kernel, 1)) return UNKNOWN;
-    asker = (struct nippersage_task){kernel, ASKER, named->pid};
-    instance = kernel_make(asker, &make);
-    if (instance < 0) return UNKNOWN;
-    add = (struct exchange){.request = {.event = EP_CTL, .fd = (int)instance, .number = EPOLL_CTL_ADD,
-                                        .target = named->fd, .count = EPOLLIN | EPOLLPRI | EPOLLOUT | EPOLLRDHUP}};
-    if (kernel_make(asker, &add) >= 0) {
-        wait = (struct exchange){.request = {.event = EP_WAIT, .fd = (int)instance, .number = 1}, .reports = 1};
-        shown = kernel_make(asker, &wait) == 1 ? (int64_t)kernel->reports[0].events : 0;
-    }
-    close = (struct exchange){.request = {.event = EP_CLOSE, .fd = (int)instance}};
-    kernel_make(asker, &close);
-    return shown;
+static void ask_at(struct tables *tables, struct nippersage_kernel *kernel, const struct sleeping *at) {
+    uint32_t caller = (uint32_t)at->number + 1;
+    int count = kernel_watches_awaited(kernel, caller, NULL, 0);
+    struct nippersage_watch *told;
+    if (count <= 0) return;
+    told = malloc((size_t)count * sizeof *told);
+    if (told && kernel_watches_awaited(kernel, caller, told, count) == count)
+        note_told(tables, at->file, told, (size_t)count);
+    else
+        tables->lacks = 1;
+    free(told);
 }
 
 void tables_ask(struct tables *tables, struct nippersage_kernel *kernel) {
-    for (size_t i = 0; i < tables->watches_count; i++) {
-        struct watch *watch = &tables->watches[i];
-        int is_needed = 0;
-        for (size_t k = 0; k < tables->asleep_count; k++) is_needed |= tables->asleep[k].file == watch->instance;
-        if (is_needed && tables_is_alive(tables, watch->file)) watch->shown = tables_shown(tables, kernel, watch->file);
-    }
+    for (size_t i = 0; i < tables->asleep_count; i++)
+        if (tables->asleep[i].number != SETUP) ask_at(tables, kernel, &tables->asleep[i]);
 }
 
 void tables_free(struct tables *tables) {

@@ -10,10 +10,7 @@ static int is_daemon(const struct search *search, int number) { return search->p
 
 /* Whether the user lets somebody sleep beside the data of this registration. */
 static int counts(const struct search *search, const struct watch *watch) {
-    struct nippersage_watch shown = {.fd = watch->fd, .events = watch->mask, .data = watch->data};
-    if (!search->options.beside) return 1;
-    shown.shown = watch->shown > 0 ? (uint32_t)watch->shown : 0;
-    return search->options.beside(&shown, search->shared) != 0;
+    return !search->options.beside || search->options.beside(&watch->told, search->shared) != 0;
 }
 
 static int is_watch_of(const struct tables *tables, const struct watch *watch, const struct sleeping *at) {
@@ -22,21 +19,24 @@ static int is_watch_of(const struct tables *tables, const struct watch *watch, c
 
 /* Whether the sleeper lies beside the data of this registration. */
 static int is_lost(const struct search *search, const struct watch *watch, const struct sleeping *at) {
-    return is_watch_of(&search->tables, watch, at) && watch->shown > 0 &&
-           ((uint32_t)watch->shown & watch->mask & DATA) != 0 && counts(search, watch);
+    return is_watch_of(&search->tables, watch, at) && (watch->told.shown & watch->told.events & DATA) != 0 &&
+           counts(search, watch);
+}
+
+/* Whether a registration of the sleeper's instance is reportable, or any that the user lets count. */
+static int has_watch(const struct search *search, const struct sleeping *at, int only_reportable) {
+    const struct tables *tables = &search->tables;
+    for (size_t i = 0; i < tables->watches_count; i++) {
+        const struct watch *watch = &tables->watches[i];
+        if (!is_watch_of(tables, watch, at)) continue;
+        if (only_reportable ? watch->told.is_reportable : counts(search, watch)) return 1;
+    }
+    return 0;
 }
 
 /* Whether an instance would report, though nobody woke who sleeps there. Only EXCLUSIVE leaves it so. */
 static int is_passed_over(const struct search *search, const struct sleeping *at) {
-    const struct tables *tables = &search->tables;
-    int is_counted = !search->options.beside;
-    int64_t shown;
-    if (!tables->has_exclusive) return 0;
-    for (size_t i = 0; i < tables->watches_count && !is_counted; i++)
-        is_counted = is_watch_of(tables, &tables->watches[i], at) && counts(search, &tables->watches[i]);
-    if (!is_counted) return 0;
-    shown = tables_shown(tables, search->order.kernel, at->file);
-    return shown > 0 && ((uint32_t)shown & EPOLLIN) != 0;
+    return has_watch(search, at, 1) && has_watch(search, at, 0);
 }
 
 static int lies_beside(const struct search *search, int number) {
@@ -100,29 +100,28 @@ static void text_file(struct text *text, const struct search *search, const stru
 }
 
 static void text_reported(struct text *text, const struct search *search, const struct watch *watch) {
-    if (watch->told == UNCLEAR)
-        text_add(text, ", last reported to whom isn't known, as others have data %" PRIu64 ", too", watch->data);
-    else if (watch->told > 0)
-        text_add(text, ", reported to %s in turn %" PRId64, name_of(&search->names, watch->told_by), watch->told);
-    else
+    struct turn turn = turn_of(search->order.now, watch->told.reported_in);
+    if (watch->told.reported_in == 0)
         text_add(text, ", never reported");
+    else if (turn.number == SETUP)
+        text_add(text, ", reported in setup");
+    else
+        text_add(text, ", reported to %s in turn %zu", name_of(&search->names, turn.number), turn.place);
 }
 
 static void text_watch(struct text *text, const struct search *search, const struct watch *watch,
                        const struct sleeping *at) {
+    const struct nippersage_watch *told = &watch->told;
     text_file(text, search, watch, at);
     text_add(text, " shows ");
-    if (watch->shown > 0)
-        text_bits(text, (uint32_t)watch->shown);
+    if (told->shown != 0)
+        text_bits(text, told->shown);
     else
-        text_add(text, "%s", watch->shown == 0 ? "nothing" : "what can't be asked");
+        text_add(text, "nothing");
     text_add(text, ", registered ");
-    text_bits(text, watch->mask);
-    if (watch->is_armed != 1)
-        text_add(text, "%s", watch->is_armed == 0 ? ", not armed" : ", armed or not");
-    else if (watch->mask & EPOLLONESHOT)
-        text_add(text, ", armed");
-    if (watch->mask & (EPOLLET | EPOLLONESHOT)) text_reported(text, search, watch);
+    text_bits(text, told->events);
+    if (told->events & EPOLLONESHOT) text_add(text, told->is_armed ? ", armed" : ", not armed");
+    if (told->events & (EPOLLET | EPOLLONESHOT)) text_reported(text, search, watch);
 }
 
 static void text_place(struct text *text, const struct search *search, const struct sleeping *at) {

@@ -464,6 +464,80 @@ static void waiters(void) {
     IS(nippersage_waiters(NULL, all, 1), -EINVAL);
 }
 
+static void is_watch(struct nippersage_watch found, struct nippersage_watch wanted) {
+    IS(found.fd, wanted.fd);
+    IS(found.events, wanted.events);
+    IS(found.data, wanted.data);
+    IS(found.shown, wanted.shown);
+    IS(found.is_armed, wanted.is_armed);
+    IS(found.is_reportable, wanted.is_reportable);
+    IS(found.reported_in, wanted.reported_in);
+    IS(found.reported_to, wanted.reported_to);
+}
+
+/* What an instance watches, by hand from docs/calls.md: a counter that can be read and was reported to caller 2, and one
+   that is reported once, at most. The number of the counter is closed while another one names it. */
+static void watches(void) {
+    struct epoll_event level = {.events = EPOLLIN, .data.u64 = 7}, once = {.events = EPOLLIN | EPOLLONESHOT}, found[4];
+    struct nippersage_watch all[3] = {{0}};
+    struct nippersage_watch first = {.events = EPOLLIN, .data = 7, .is_armed = 1, .is_reportable = 1, .reported_to = 2},
+                            second = {.events = once.events, .shown = EPOLLIN | EPOLLOUT};
+    size_t records;
+    int ep = nippersage_epoll_create1(one, 0), counter, copy;
+    first.fd = counter = nippersage_eventfd(one, 1, 0);
+    second.fd = nippersage_eventfd(one, 1, 0);
+    IS(nippersage_epoll_ctl(one, ep, EPOLL_CTL_ADD, counter, &level), 0);
+    IS(nippersage_epoll_ctl(one, ep, EPOLL_CTL_ADD, second.fd, &once), 0);
+    IS(nippersage_wait_start(two, ep, found, 4, 0), 2);
+    IS(nippersage_records(kernel, &records), 0);
+    first.shown = EPOLLIN | EPOLLOUT;
+    first.reported_in = second.reported_in = records;
+    second.reported_to = 2;
+    IS(nippersage_watches(one, ep, all, 3), 2);
+    is_watch(all[0], first);
+    is_watch(all[1], second);
+    is_watch(all[2], (struct nippersage_watch){0});
+    copy = nippersage_dup(one, counter);
+    IS(nippersage_close(one, counter), 0);
+    IS(nippersage_epoll_ctl(one, ep, EPOLL_CTL_MOD, second.fd, &once), 0);
+    all[1].fd = -7;
+    IS(nippersage_watches(one, ep, all, 1), 2);
+    is_watch(all[0], first);
+    IS(all[1].fd, -7);
+    IS(nippersage_watches(one, ep, NULL, 0), 2);
+    IS(nippersage_watches(one, second.fd, all, 3), -EINVAL);
+    IS(nippersage_watches(one, 1000, all, 3), -EBADF);
+    IS(nippersage_watches((struct nippersage_task){kernel, 1, 77}, ep, all, 3), -EBADF);
+    IS(nippersage_watches(one, ep, all, -1), -EINVAL);
+    IS(nippersage_watches(one, ep, NULL, 1), -EFAULT);
+    IS(nippersage_watches((struct nippersage_task){NULL, 1, 1}, ep, all, 3), -EINVAL);
+    IS(nippersage_close(one, copy), 0);
+    IS(nippersage_watches(one, ep, all, 3), 1);
+    IS(all[0].is_armed, 1);
+    IS(nippersage_close(one, second.fd), 0);
+    IS(nippersage_close(one, ep), 0);
+}
+
+/* The same of an instance that has no number any more, while a caller is parked there. */
+static void watches_awaited(void) {
+    struct epoll_event event = {.events = EPOLLIN, .data.u64 = UINT64_MAX}, found;
+    struct nippersage_watch all[2];
+    int ep = nippersage_epoll_create1(one, 0), ends[2];
+    IS(nippersage_pipe2(one, ends, 0), 0);
+    IS(nippersage_epoll_ctl(one, ep, EPOLL_CTL_ADD, ends[0], &event), 0);
+    IS(nippersage_watches_awaited(kernel, 2, all, 2), -EINVAL);
+    IS(nippersage_wait_start(two, ep, &found, 1, 1), NIPPERSAGE_PARKED);
+    IS(nippersage_close(one, ep), 0);
+    IS(nippersage_watches_awaited(kernel, 2, all, 2), 1);
+    is_watch(all[0], (struct nippersage_watch){ends[0], EPOLLIN, UINT64_MAX, 0, 1, 0, 0, 0});
+    IS(nippersage_watches_awaited(kernel, 1, all, 2), -EINVAL);
+    IS(nippersage_watches_awaited(NULL, 2, all, 2), -EINVAL);
+    IS(nippersage_tick(one, &(struct timespec){0, 1000000}), 0);
+    IS(nippersage_resume(two, &found, 1), 0);
+    IS(nippersage_close(one, ends[0]), 0);
+    IS(nippersage_close(one, ends[1]), 0);
+}
+
 /* Waits that move the clock by themselves. */
 static void by_itself(void) {
     struct epoll_event event = {.events = EPOLLIN, .data.u64 = 9}, found;
@@ -561,6 +635,8 @@ int main(int argc, char **argv) {
     long_waits();
     exclusive();
     waiters();
+    watches();
+    watches_awaited();
     by_itself();
     many();
     history();

@@ -32,12 +32,15 @@ static void calls(struct nippersage_kernel *kernel) {
     struct itimerspec second = {.it_value = {1, 0}};
     char bytes[64] = "0123456789012345678901234567890123456789";
     struct iovec vectors[2] = {{bytes, 20}, {bytes + 20, 20}};
+    struct nippersage_watch watches[2];
     int ends[2], sink;
     struct timespec moment;
     AGAIN(nippersage_pipe2(one, ends, 0), 0);
     AGAIN(nippersage_epoll_create1(one, 0), 5);
     AGAIN(nippersage_epoll_ctl(one, 5, EPOLL_CTL_ADD, 3, &event), 0);
     AGAIN(nippersage_wait_start(one, 5, found, 8, -1), NIPPERSAGE_PARKED);
+    AGAIN(nippersage_watches(one, 5, watches, 2), 1);
+    AGAIN(nippersage_watches_awaited(kernel, 1, watches, 2), 1);
     AGAIN(nippersage_writev(two, 4, vectors, 2), 40);
     AGAIN(nippersage_resume(one, found, 8), 1);
     AGAIN(nippersage_readv(one, 3, vectors, 2), 40);

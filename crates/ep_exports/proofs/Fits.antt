@@ -5,6 +5,7 @@ use Rattle.std.specs.Option.{is_some}
 use Rattle.std.proofs.lemmas.Bool.{ltb-false, eqb-true}
 use Rattle.std.specs.Prelude.{is_none}
 use Rattle.std.proofs.Common.{arith, refl, sym, ap, subst, true≢false, ◌≡◌, ◌≤◌, ◌==◌, ◌&&◌, ◌||◌, nat_lt, Bool, true, false, if◌then◌else◌, List, [], ◌∷◌, length, map, min, ℕ, ℤ, pos, negsuc, suc, zero, Option, None, Some, not}
+use Rattle.ep_facts.proofs.BoolFacts.{first_of_or, second_of_or}
 use Rattle.ep_base.specs.Limits.{Limits}
 use Rattle.ep_base.specs.declared.answer.Answer.{Answer}
 use Rattle.ep_base.specs.declared.answer.Answer.TheVariants.{Done, Num, Two, Refused, Bytes, Events, Time, Parked, Still}
@@ -233,14 +234,6 @@ resumption_fits_event r given Resume limits answer s t past now w asks is found 
     by_step (λ a. length (reports_of a) ≤ w.most) limits (record { 0 = r.caller }) Resume answer s t past now (omega arith) (λ picked h. step_resume limits s t r.caller w picked answer found h) acts
 resumption_fits_event r given (Tick n) limits answer s t past now w asks is found acts = absurd (omega (arith, asks.0, is))
 
-or_left : (x y : Bool) → (x || y) ≡ false → x ≡ false
-or_left true y h = absurd (true≢false h)
-or_left false y h = refl
-
-or_right : (x y : Bool) → (x || y) ≡ false → y ≡ false
-or_right true y h = absurd (true≢false h)
-or_right false y h = h
-
 and_right : (x y : Bool) → x ≡ true → (x && y) ≡ false → y ≡ false
 and_right true y t h = h
 and_right false y t h = absurd (true≢false (sym t))
@@ -256,10 +249,10 @@ fits r given event limits answer s t past now bytes reports asks acts room =
     let reads = r.event == 9 && nat_lt bytes r.count in
     let waits = r.event == 8 && nat_lt reports (count_of r.number) in record {
       read = λ is. read_fits_event r given event limits caller answer s t past now bytes asks is
-          (ltb-false bytes r.count (and_right (r.event == 9) (nat_lt bytes r.count) (ap (λ k. k == 9) is) (or_left reads waits room))) acts;
+          (ltb-false bytes r.count (and_right (r.event == 9) (nat_lt bytes r.count) (ap (λ k. k == 9) is) (first_of_or reads waits room))) acts;
       wait = λ is. wait_fits_event r given event limits caller answer s t past now reports asks is
           (subst (λ (k : ℕ). k ≤ reports) (sym (same_count r.number)) (ltb-false reports (count_of r.number)
-          (and_right (r.event == 8) (nat_lt reports (count_of r.number)) (ap (λ k. k == 8) is) (or_right reads waits room)))) acts;
+          (and_right (r.event == 8) (nat_lt reports (count_of r.number)) (ap (λ k. k == 8) is) (second_of_or reads waits room)))) acts;
       resumption = λ is w found most.
           let few = resumption_fits_event r given event limits answer s t past now w asks is found acts in omega (arith, few, most);
     }

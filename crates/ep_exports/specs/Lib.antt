@@ -3,3 +3,4 @@ pub mod Keeping
 pub mod Events
 pub mod Asking
 pub mod Records
+pub mod Watches

@@ -9,3 +9,4 @@ pub mod events;
 pub mod keeping;
 pub mod records;
 mod status;
+pub mod watches;

@@ -1,16 +1,18 @@
 //! The history.
-ghost use Rattle.std.specs.Prelude.{◌≡◌};
+ghost use Rattle.std.specs.Prelude.{◌≡◌, IfOk};
 ghost use Rattle.ep_history.specs.Records.{record_line};
+ghost use Rattle.ep_records.specs.Said.{said_answer};
+ghost use Rattle.ep_exports.specs.Events.{IsLaidOut};
 ghost use Rattle.ep_exports.specs.Records.{AskedRecords, Checked, IsPrinted, Printed, Recorded};
 
 use crate::status::{EBADF, EBADMSG, EINVAL, EMSGSIZE, ENOMEM};
-use ep_audit::{AuditFault, audit};
-use ep_base::Record;
+use ep_audit::{AuditFault, audit_history};
 use ep_calls::Kernel;
-use ep_flat::{FlatReply, FlatReport, put_answer, put_bytes};
+use ep_flat::{FlatReply, FlatReport, put_answer, put_bytes, put_given, put_told};
 use ep_handle::Handle;
 use ep_history::print_record;
-use std::alloc::Global;
+use ep_records::{Entry, Said};
+use std::alloc::{AllocError, Global};
 
 /// How many records the history has, one for each event that wasn't answered ENOMEM: 0 and the count, or -EBADF.
 #[unsafe(no_mangle)]
@@ -25,6 +27,26 @@ pub extern "C" fn ep_records(alloc: Global, handle: &mut Handle, count: &mut usi
             handle.put(kernel);
             0
         }
+    }
+}
+
+/// Lays out what a record was answered at this moment, as `put_answer` does.
+fn put_said(
+    said: &Said<'_>,
+    now: u64,
+    reply: &mut FlatReply,
+    bytes: &mut [u8],
+    reports: &mut [FlatReport],
+)
+    ensures { IsLaidOut (said_answer said.now) now
+        (record { reply = reply.old; bytes = bytes.old; reports = reports.old })
+        (record { reply = reply.new; bytes = bytes.new; reports = reports.new }) }
+{
+    match said {
+        Said::Made(answer) => put_answer(answer, now, reply, bytes, reports),
+        Said::Kept(answer) => put_answer(answer, now, reply, bytes, reports),
+        Said::Bytes(given) => put_given(given, now, reply, bytes),
+        Said::Reports(given) => put_told(given, now, reply, reports),
     }
 }
 
@@ -49,7 +71,7 @@ pub extern "C" fn ep_recorded(
             let result = match kernel.history().get(place) {
                 None => -EINVAL,
                 Some(entry) => {
-                    put_answer(&entry.answer, kernel.now().at(), reply, bytes, reports);
+                    put_said(&entry.answer(), kernel.now().at(), reply, bytes, reports);
                     0
                 }
             };
@@ -59,11 +81,18 @@ pub extern "C" fn ep_recorded(
     }
 }
 
+/// The line of a record. An `Err` is want of memory.
+fn line_of(alloc: Global, entry: &Entry<'_>) -> Result<Vec<u8>, AllocError>
+    ensures { IfOk result (λ line. line.items ≡ record_line entry.now) }
+{
+    print_record(alloc, &entry.copy()?)
+}
+
 /// Puts the line of a record into the room, as `ep_line` says.
-fn put_line(alloc: Global, entry: &Record, line: &mut [u8], size: &mut usize) -> i32
+fn put_line(alloc: Global, entry: &Entry<'_>, line: &mut [u8], size: &mut usize) -> i32
     ensures { IsPrinted (record_line entry.now) line.old size.old line.new size.new result }
 {
-    match print_record(alloc, entry) {
+    match line_of(alloc, entry) {
         Err(_) => -ENOMEM,
         Ok(text) => {
             *size = text.len();
@@ -95,7 +124,7 @@ pub extern "C" fn ep_line(
         Some(kernel) => {
             let result = match kernel.history().get(place) {
                 None => -EINVAL,
-                Some(entry) => put_line(alloc, entry, line, size),
+                Some(entry) => put_line(alloc, &entry, line, size),
             };
             handle.put(kernel);
             result
@@ -112,7 +141,7 @@ pub extern "C" fn ep_check(alloc: Global, handle: &mut Handle) -> i32
     match handle.take(alloc) {
         None => -EBADF,
         Some(kernel) => {
-            let result = match audit(alloc, kernel.limits(), kernel.history()) {
+            let result = match audit_history(alloc, kernel.limits(), kernel.history()) {
                 Ok(()) => 0,
                 Err(AuditFault::Memory) => -ENOMEM,
                 Err(AuditFault::Illegal(_)) => -EBADMSG,

@@ -1,7 +1,7 @@
 //! How an answer is laid out.
 ghost use Rattle.std.specs.Prelude.{◌≡◌, ◌≤◌, length, map, min, pos};
 ghost use Rattle.ep_base.specs.Errno.{errno_number};
-ghost use Rattle.ep_flat.specs.Flat.{as_result, bytes_of, flat_report, overlaid, refused, reply_of, reports_of};
+ghost use Rattle.ep_flat.specs.Flat.{as_result, bytes_of, flat_report, overlaid, plain_reply, refused, reply_of, reports_of};
 
 use crate::flat::{FlatReply, FlatReport};
 use ep_base::{Answer, Errno, Report};
@@ -56,18 +56,25 @@ fn refused(errno: Errno) -> i64
     -(errno.number() as i64)
 }
 
-/// The reply of an answer at this moment.
-fn reply_of(answer: &Answer, now: u64) -> FlatReply
-    ensures { result ≡ reply_of answer.now now }
+/// The reply that is a result alone.
+fn plain_reply(number: i64, now: u64) -> FlatReply
+    ensures { result ≡ plain_reply number now }
 {
-    let mut reply = FlatReply {
-        result: 0,
+    FlatReply {
+        result: number,
         first: 0,
         second: 0,
         value: 0,
         interval: 0,
         now,
-    };
+    }
+}
+
+/// The reply of an answer at this moment.
+fn reply_of(answer: &Answer, now: u64) -> FlatReply
+    ensures { result ≡ reply_of answer.now now }
+{
+    let mut reply = plain_reply(0, now);
     match answer {
         Answer::Done => {}
         Answer::Num(number) => reply.result = as_result(*number),
@@ -108,4 +115,22 @@ pub fn put_answer(
         Answer::Events(given) => put_reports(given.as_slice(), reports),
         _ => {}
     }
+}
+
+/// Lays out the answer of a read that gives these bytes, as `put_answer` does.
+pub fn put_given(given: &[u8], now: u64, reply: &mut FlatReply, bytes: &mut [u8])
+    ensures reply { reply.new ≡ reply_of (Answer.Bytes given.now) now }
+    ensures bytes { bytes.new ≡ overlaid bytes.old given.now }
+{
+    *reply = plain_reply(given.len() as i64, now);
+    put_bytes(given, bytes);
+}
+
+/// Lays out the answer of a wait that makes these reports, as `put_answer` does.
+pub fn put_told(given: &[Report], now: u64, reply: &mut FlatReply, reports: &mut [FlatReport])
+    ensures reply { reply.new ≡ reply_of (Answer.Events given.now) now }
+    ensures reports { reports.new ≡ overlaid reports.old (map flat_report given.now) }
+{
+    *reply = plain_reply(given.len() as i64, now);
+    put_reports(given, reports);
 }

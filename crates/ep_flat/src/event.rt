@@ -1,5 +1,5 @@
 //! The event that a request asks for.
-ghost use Rattle.std.specs.Prelude.{◌≡◌, ◌<◌, ◌≤◌, ◌⊎◌, [], IfOk, IsOk, MatchOption, OnErr};
+ghost use Rattle.std.specs.Prelude.{◌≡◌, ◌<◌, ◌≤◌, ◌⊎◌, [], IfOk, IsOk, List, MatchOption, OnErr, ℕ};
 ghost use Rattle.ep_flat.specs.Flat.{Asks, AsksCall, AsksNothing, lacks_room};
 
 use crate::flat::FlatRequest;
@@ -23,17 +23,14 @@ fn buffer_of(alloc: Global, bytes: &[u8]) -> Result<Buffer, AllocError>
     Ok(Buffer::new(values))
 }
 
-/// The call that is asked for, or `None` exactly if the number is that of no call.
-fn call_of(alloc: Global, request: &FlatRequest, bytes: &[u8]) -> Result<Option<Call>, AllocError>
-    ensures ok { IfOk result
-        (λ asked. MatchOption asked ((request.now.event < 1) ⊎ (20 ≤ request.now.event))
-        (λ call. AsksCall request.now bytes.now call)) }
-    ensures write { OnErr result (request.now.event ≡ 10) }
-    ensures no_bytes { bytes.now ≡ [] → IsOk result }
+/// The call that makes an object, or `None` exactly if the number is that of no such call.
+fn creation_of(request: &FlatRequest) -> Option<Call>
+    ensures { (given : List ℕ) → MatchOption result
+        ((request.now.event < 1) ⊎ (7 ≤ request.now.event))
+        (λ call. AsksCall request.now given call) }
 {
     let cloexec = request.flags & CLOEXEC != 0;
-    let fd = Fd(request.fd);
-    Ok(Some(match request.event {
+    Some(match request.event {
         1 => Call::Pipe { cloexec },
         2 => Call::EventFd {
             init: request.count,
@@ -47,6 +44,18 @@ fn call_of(alloc: Global, request: &FlatRequest, bytes: &[u8]) -> Result<Option<
         4 => Call::SocketPair { cloexec },
         5 => Call::Plain { cloexec },
         6 => Call::EpollCreate { cloexec },
+        _ => return None,
+    })
+}
+
+/// The call on a descriptor or a process, but for a write, or `None` exactly if the number is that of no such call.
+fn other_call_of(request: &FlatRequest) -> Option<Call>
+    ensures { (given : List ℕ) → MatchOption result
+        ((request.now.event < 7) ⊎ (request.now.event ≡ 10) ⊎ (20 ≤ request.now.event))
+        (λ call. AsksCall request.now given call) }
+{
+    let fd = Fd(request.fd);
+    Some(match request.event {
         7 => Call::EpollCtl {
             epfd: fd,
             op: request.number,
@@ -62,10 +71,6 @@ fn call_of(alloc: Global, request: &FlatRequest, bytes: &[u8]) -> Result<Option<
         9 => Call::Read {
             fd,
             n: request.count,
-        },
-        10 => Call::Write {
-            fd,
-            bytes: buffer_of(alloc, bytes)?,
         },
         11 => Call::Shutdown { fd },
         12 => Call::SetTime {
@@ -84,8 +89,28 @@ fn call_of(alloc: Global, request: &FlatRequest, bytes: &[u8]) -> Result<Option<
         17 => Call::Fork,
         18 => Call::Exec,
         19 => Call::Exit,
-        _ => return Ok(None),
-    }))
+        _ => return None,
+    })
+}
+
+/// The call that is asked for, or `None` exactly if the number is that of no call.
+fn call_of(alloc: Global, request: &FlatRequest, bytes: &[u8]) -> Result<Option<Call>, AllocError>
+    ensures ok { IfOk result
+        (λ asked. MatchOption asked ((request.now.event < 1) ⊎ (20 ≤ request.now.event))
+        (λ call. AsksCall request.now bytes.now call)) }
+    ensures write { OnErr result (request.now.event ≡ 10) }
+    ensures no_bytes { bytes.now ≡ [] → IsOk result }
+{
+    if request.event < 7 {
+        return Ok(creation_of(request));
+    }
+    if request.event == 10 {
+        return Ok(Some(Call::Write {
+            fd: Fd(request.fd),
+            bytes: buffer_of(alloc, bytes)?,
+        }));
+    }
+    Ok(other_call_of(request))
 }
 
 /// The event that is asked for, a write with these bytes, or `None` exactly if the number is that of no event.

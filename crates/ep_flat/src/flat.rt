@@ -101,3 +101,25 @@ pub struct FlatReport {
     /// The data of the registration.
     pub tag: u64,
 }
+
+/// What is told of one registration of an instance.
+#[repr(C)]
+#[derive(Clone, Copy, Debug, PartialEq, Eq)]
+pub struct FlatWatch {
+    /// The data of the registration.
+    pub tag: u64,
+    /// The event of its last report, by its place in the history, from 1 on; 0 if it was never reported.
+    pub reported_in: u64,
+    /// The caller that got that report; 0 if it was never reported.
+    pub reported_to: u32,
+    /// The descriptor number under which it was added.
+    pub fd: i32,
+    /// The bits that it asks for, and its modes.
+    pub mask: u32,
+    /// The bits that hold at its target, whether it asks for them or not.
+    pub shown: u32,
+    /// 1 if it is armed, else 0.
+    pub is_armed: u32,
+    /// 1 if a wait would report it, else 0.
+    pub is_reportable: u32,
+}

@@ -5,6 +5,6 @@ mod answer;
 mod event;
 mod flat;
 
-pub use crate::answer::{put_answer, put_bytes};
+pub use crate::answer::{put_answer, put_bytes, put_given, put_told};
 pub use crate::event::{event_of, lacks_room};
-pub use crate::flat::{FlatLimits, FlatReply, FlatReport, FlatRequest};
+pub use crate::flat::{FlatLimits, FlatReply, FlatReport, FlatRequest, FlatWatch};

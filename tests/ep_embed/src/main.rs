@@ -10,9 +10,10 @@ use crate::clock::advance;
 use crate::room::print_room;
 use crate::timers::let_end;
 use ep_base::{
-    Answer, Buffer, Call, CallerId, Event, Fd, Limits, Mask, Pid, Record, Report, Span, Timeout,
+    Answer, Buffer, Call, CallerId, Event, Fd, Limits, Mask, Pid, Report, Span, Timeout,
 };
 use ep_plain::{Kernel, PlainKernel, run};
+use ep_records::Entry;
 use std::alloc::{AllocError, Global};
 use std::io;
 
@@ -88,7 +89,7 @@ fn resume<K: Kernel>(kernel: &mut K) -> Option<Report> {
 
 /// How many records of the history are of this caller.
 fn records_of<K: Kernel>(kernel: &K, caller: CallerId) -> usize {
-    let is_of = |record: &&Record| record.caller == caller;
+    let is_of = |entry: &Entry<'_>| entry.caller() == caller;
     kernel.history().iter().filter(is_of).count()
 }
 

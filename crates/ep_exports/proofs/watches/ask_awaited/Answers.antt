@@ -1,0 +1,20 @@
+use Rattle.std.proofs.Common.{List, SFits, rules, subst, sym, to_z-of_z, w32, ℤ, ◌≡◌}
+use Rattle.ep_base.specs.declared.record.Record.{Record}
+use Rattle.ep_exports.proofs.WatchLemmas.{awaited}
+use Rattle.ep_exports.specs.Watches.{IsTold, TellsAwaited, WatchRoom}
+use Rattle.ep_kernel.specs.ReadyBook.{state_of}
+use Rattle.ep_machine.specs.Waits.{waiter_of}
+use Rattle.ep_exports.proofs.watches.ask_awaited.Goals as goal
+
+pub returns-clause-tells : goal.returns-clause-tells
+returns-clause-tells c =
+    let kernel = c.args.kernel.now in
+    let s = state_of kernel in
+    let caller = c.args.caller.0 in
+    let before : WatchRoom = record { watches = c.args.room.now; count = c.args.count.now } in
+    let after : WatchRoom = record { watches = c.put_asked.new.room; count = c.put_asked.new.count } in
+    let fits : SFits w32 c.put_asked.result = search rules in
+    let past_is : c.history.result.now.items ≡ kernel.book.past = search rules in
+    let put = subst (λ (l : List Record). IsTold l c.watches_awaited-answer.result c.watches_awaited-answer.new.room before after c.put_asked.result) past_is c.put_asked.ensures in
+    subst (λ (z : ℤ). TellsAwaited kernel caller before after z) (sym (to_z-of_z fits))
+    (awaited kernel.book.past c.watches_awaited-answer.result c.args.told.now c.watches_awaited-answer.new.room before after c.put_asked.result put s (waiter_of s caller) c.requires c.watches_awaited-answer.ensures.tells)
