@@ -8,7 +8,7 @@ from typing import Any, Callable, List, Optional, Sequence, Tuple, Type, Union
 
 from . import _library
 from ._library import Library
-from ._numbers import Report, Time, Waiter, long, masked, number, octets, seconds, units, unsigned, within
+from ._numbers import Report, Time, Waiter, Watch, long, masked, number, octets, seconds, units, unsigned, within
 from ._program import Program
 
 _ADD, _DEL, _MOD = 1, 2, 3
@@ -250,6 +250,21 @@ class Kernel(Task):
         A caller counts until its wait was resumed.
         """
         return self._backend.waiters()
+
+    def watches(self, ep: int, *, pid: Optional[int] = None) -> List[Watch]:
+        """The registrations of the instance that a number names, in the order in which they were added.
+
+        It is no call: the history stays, and anybody may ask at any time. EBADF if the number names nothing, or the
+        process isn't there, EINVAL if it names no instance.
+        """
+        return self._backend.watches(self._who(None, pid), number("ep", ep))
+
+    def watches_awaited(self, by: int) -> List[Watch]:
+        """The same of the instance at which a caller is parked, whether a number still names it or not.
+
+        EINVAL if the caller isn't parked.
+        """
+        return self._backend.watches_awaited(unsigned("by", by))
 
     def take_part(self) -> Part:
         """Says that one thread more takes part, until what comes back has ended.

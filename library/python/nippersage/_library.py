@@ -9,15 +9,15 @@ import tempfile
 from ctypes import (
     POINTER, byref, c_char, c_char_p, c_int, c_int64, c_long, c_size_t, c_ssize_t, c_uint32, c_uint64, c_void_p,
 )
-from typing import Any, Dict, List, Optional, Sequence, Tuple
+from typing import Any, Callable, Dict, List, Optional, Sequence, Tuple
 
-from ._numbers import UNITS, Ended, Limits, Waiter, limits_of, refusal, seconds
+from ._numbers import UNITS, Ended, Limits, Waiter, Watch, limits_of, refusal, seconds, watch_of
 
 _HERE = os.path.dirname(os.path.abspath(__file__))
 
 _PARKED = -4096
 _EINVAL, _EDEADLK = 22, 35
-#: Of how many callers EDEADLK tells where they wait.
+#: Of how many callers EDEADLK tells where they wait, and of how many registrations what is there.
 _MOST_TOLD = 8
 _CLOEXEC, _SEMAPHORE, _ABSTIME = 0o2000000, 1, 1
 _AF_UNIX, _SOCK_STREAM, _SHUT_WR = 1, 1, 1
@@ -75,6 +75,13 @@ class _Waiter(ctypes.Structure):
     ]
 
 
+class _Watch(ctypes.Structure):
+    _fields_ = [
+        ("fd", c_int), ("events", c_uint32), ("data", c_uint64), ("shown", c_uint32), ("is_armed", c_int),
+        ("is_reportable", c_int), ("reported_in", c_uint64), ("reported_to", c_uint32),
+    ]
+
+
 #: One report of a wait: the bits, and the data.
 _Report = Tuple[int, int]
 
@@ -101,6 +108,8 @@ _TAKEN: Dict[str, Tuple[Any, ...]] = {
     "is_parked": (c_void_p, c_uint32),
     "is_marked": (c_void_p, c_uint32),
     "waiters": (c_void_p, c_void_p, c_int),
+    "watches": (Who, c_int, c_void_p, c_int),
+    "watches_awaited": (c_void_p, c_uint32, c_void_p, c_int),
     "shutdown": (Who, c_int, c_int),
     "dup": (Who, c_int),
     "dup2": (Who, c_int, c_int),
@@ -209,8 +218,17 @@ class Library:
         if self._ended and result == -_EINVAL:
             raise Ended("the kernel has ended")
         if result == -_EDEADLK:
-            raise OSError(_EDEADLK, _deadlock(self.waiters()))
+            raise OSError(_EDEADLK, self._deadlock())
         raise refusal(-result)
+
+    def _deadlock(self) -> str:
+        """What EDEADLK says: who waits at what, and what is registered there."""
+        told = _some([self._told(it) for it in self.waiters()], "more wait")
+        return f"EDEADLK: no event can end the waits: {'; '.join(told)}"
+
+    def _told(self, waiter: Waiter) -> str:
+        watched = ", ".join(_some([str(it) for it in self.watches_awaited(waiter.by)], "more are registered"))
+        return f"{waiter}: {watched}" if watched else f"{waiter}, and nothing is registered there"
 
     def pipe(self, who: Who, cloexec: bool) -> Tuple[int, int]:
         ends = (c_int * 2)()
@@ -334,12 +352,24 @@ class Library:
         return self._done(self._f.is_marked(self._pointer(), by)) == 1
 
     def waiters(self) -> List[Waiter]:
-        pointer, room = self._pointer(), (_Waiter * 0)()
-        count = self._done(self._f.waiters(pointer, None, 0))
+        pointer = self._pointer()
+        return [_waiter(it) for it in self._all(_Waiter, lambda room, most: self._f.waiters(pointer, room, most))]
+
+    def watches(self, who: Who, ep: int) -> List[Watch]:
+        return [_watch(it) for it in self._all(_Watch, lambda room, most: self._f.watches(who, ep, room, most))]
+
+    def watches_awaited(self, by: int) -> List[Watch]:
+        pointer, ask = self._pointer(), self._f.watches_awaited
+        return [_watch(it) for it in self._all(_Watch, lambda room, most: ask(pointer, by, room, most))]
+
+    def _all(self, kind: Any, ask: Callable[[Any, int], int]) -> List[Any]:
+        """All that is told, of that kind. It is asked first how many there are, and again if meanwhile there are more."""
+        room = (kind * 0)()
+        count = self._done(ask(None, 0))
         while count > len(room):
-            room = (_Waiter * count)()
-            count = self._done(self._f.waiters(pointer, room, len(room)))
-        return [_waiter(it) for it in room[:count]]
+            room = (kind * count)()
+            count = self._done(ask(room, len(room)))
+        return room[:count]
 
     def tasks(self, more: int) -> None:
         self._done(self._f.tasks(self._pointer(), more))
@@ -372,12 +402,17 @@ def _waiter(found: _Waiter) -> Waiter:
     return Waiter(found.caller, found.pid, found.epfd, found.most, timeout)
 
 
-def _deadlock(waiters: List[Waiter]) -> str:
-    """What EDEADLK says: who waits at what."""
-    told = [str(it) for it in waiters[:_MOST_TOLD]]
-    if len(waiters) > _MOST_TOLD:
-        told.append(f"and {len(waiters) - _MOST_TOLD} more wait")
-    return f"EDEADLK: no event can end the waits: {', '.join(told)}"
+def _watch(found: _Watch) -> Watch:
+    return watch_of(
+        found.fd, found.events, found.data, found.shown, found.is_armed == 1, found.is_reportable == 1,
+        found.reported_in, found.reported_to,
+    )
+
+
+def _some(told: List[str], more: str) -> List[str]:
+    """The first of what is told, and how many more there are."""
+    left = len(told) - _MOST_TOLD
+    return told[:_MOST_TOLD] + [f"and {left} {more}"] if left > 0 else told
 
 
 def _end(timeout: int) -> Any:

@@ -123,6 +123,38 @@ class Waiter(NamedTuple):
         return f"caller {self.by}{of_process} waits at instance {self.ep} {end}"
 
 
+class Watch(NamedTuple):
+    """A registration of an instance, as `Kernel.watches` tells it."""
+
+    #: The number under which it was added. Later that number may name something else, or nothing.
+    fd: int
+    #: The bits that it asks for, and its modes.
+    mask: Mask
+    data: int
+    #: The bits that hold at its file now, whether it asks for them or not.
+    shown: Mask
+    #: False for a one-shot, from its report to the next `mod`.
+    is_armed: bool
+    #: Whether a wait would report it now.
+    is_reportable: bool
+    #: The event of its last report, by its place in the history, from 1 on, and the caller that got it. None if it was
+    #: never reported.
+    reported_in: Optional[int]
+    reported_to: Optional[int]
+
+    def __str__(self) -> str:
+        shown = repr(self.shown) if self.shown else "nothing"
+        return f"fd {self.fd} shows {shown}, registered {self.mask!r}{'' if self.is_armed else ', not armed'}"
+
+
+def watch_of(
+    fd: int, mask: int, data: int, shown: int, is_armed: bool, is_reportable: bool, reported_in: int, reported_to: int,
+) -> Watch:
+    """A registration that is told in numbers."""
+    last = (reported_in, reported_to) if reported_in else (None, None)
+    return Watch(fd, _masks[mask], data, _masks[shown], is_armed, is_reportable, *last)
+
+
 def refusal(number: int) -> OSError:
     """The error of a number of Linux: as BlockingIOError for EAGAIN, as OSError if there is no class of its own."""
     return OSError(number, NAMES.get(number, f"error number {number}"))

@@ -24,7 +24,7 @@ sys.path.insert(0, FOLDER)
 
 from nippersage import (
     AUDITOR, ET, EXCLUSIVE, HUP, IN, LIBRARY, MOST_CALLS, ONESHOT, OUT, PROGRAM, Ended, Illegal, Kernel, Limits,
-    Mask, __version__, audit, library_version,
+    Mask, Watch, __version__, audit, library_version,
 )
 from nippersage._numbers import seconds, units
 
@@ -346,8 +346,13 @@ class OverLibrary(Calls, Refusals):
             kernel.close(timer)
             self.assertIsNone(kernel.next_moment())
             self.assertIsNone(kernel.wait(timer + 1, max=3, timeout=-1, by=7))
-            with self.assertRaisesRegex(OSError, "caller 7 waits at instance 4 without a timeout, caller 0 waits at instance 4"):
+            with self.assertRaises(OSError) as caught:
                 kernel.epoll_wait(instance)
+            self.assertEqual(str(caught.exception), (
+                "[Errno 35] EDEADLK: no event can end the waits: caller 7 waits at instance 4 without a timeout, and"
+                " nothing is registered there; caller 0 waits at instance 4 without a timeout, and nothing is registered"
+                " there"
+            ))
             self.assertTrue(kernel.is_parked(0))
             self.assertEqual(kernel.waiters(), [(7, 1, instance, 3, None), (0, 1, instance, 8, None)])
             self.assertIsNone(kernel.wait(instance, timeout=0.25, by=8))
@@ -363,7 +368,61 @@ class OverLibrary(Calls, Refusals):
             with self.assertRaises(OSError) as caught:
                 kernel.epoll_wait(instance)
             self.assertEqual(caught.exception.errno, errno.EDEADLK)
-            self.assertIn("caller 8 waits at instance 3 without a timeout, and 2 more wait", str(caught.exception))
+            told = "caller 8 waits at instance 3 without a timeout, and nothing is registered there; and 2 more wait"
+            self.assertIn(told, str(caught.exception))
+
+    def test_a_deadlock_beside_data(self):
+        """It tells what is registered there, of more than eight how many more they are."""
+        with Kernel() as kernel:
+            instance = kernel.epoll()
+            kernel.add(instance, kernel.eventfd(1), IN | ONESHOT, data=1)
+            kernel.wait(instance)
+            for _ in range(9):
+                kernel.add(instance, kernel.eventfd(), IN | ET)
+            with self.assertRaises(OSError) as caught:
+                kernel.epoll_wait(instance)
+            told = str(caught.exception)
+            self.assertIn("timeout: fd 4 shows IN|OUT, registered IN|ONESHOT, not armed, fd 5 shows OUT, registered", told)
+            self.assertTrue(told.endswith("fd 11 shows OUT, registered IN|ET, and 2 more are registered"), told)
+
+    def test_watches(self):
+        """The rows are worked out by hand from docs/calls.md."""
+        with Kernel() as kernel:
+            counter, (reader, writer), instance = kernel.eventfd(1), kernel.pipe(), kernel.epoll()
+            kernel.add(instance, counter, IN, data=30)
+            kernel.add(instance, reader, IN | ONESHOT, data=40)
+            kernel.add(instance, writer, OUT | ET, data=50)
+            kernel.wait(instance, by=2)  # the seventh event
+            level = Watch(counter, IN, 30, IN | OUT, True, True, 7, 2)
+            edge = Watch(writer, OUT | ET, 50, OUT, True, False, 7, 2)
+            unreported = Watch(reader, IN | ONESHOT, 40, Mask(0), True, False, None, None)
+            self.assertEqual(kernel.watches(instance), [level, unreported, edge])
+            self.assertEqual(str(unreported), "fd 4 shows nothing, registered IN|ONESHOT")
+            kernel.write(writer, b"a")
+            self.assertEqual(kernel.watches(instance)[1], unreported._replace(shown=IN, is_reportable=True))
+            kernel.delete(instance, counter)
+            kernel.wait(instance, by=3)  # the tenth
+            reported = Watch(reader, IN | ONESHOT, 40, IN, False, False, 10, 3)
+            self.assertEqual(kernel.watches(instance), [reported, edge])
+            self.assertEqual(kernel.history().count("\n"), 10)
+            self.expect_refusal(errno.EBADF, kernel.watches, 77)
+            self.expect_refusal(errno.EBADF, kernel.watches, instance, pid=2)
+            self.expect_refusal(errno.EINVAL, kernel.watches, reader)
+
+    def test_watches_awaited(self):
+        """The instance has no number any more, and the file of its registration has another one."""
+        with Kernel() as kernel:
+            (reader, writer), instance = kernel.pipe(), kernel.epoll()
+            kernel.add(instance, reader, IN | ET, data=1 << 63)
+            kernel.wait(instance, timeout=None, by=9)
+            kernel.dup(reader)
+            kernel.close(reader)
+            kernel.close(instance)
+            watch = Watch(reader, IN | ET, 1 << 63, Mask(0), True, False, None, None)
+            self.assertEqual(kernel.watches_awaited(9), [watch])
+            kernel.write(writer, b"a")
+            self.assertEqual(kernel.watches_awaited(9), [watch._replace(shown=IN, is_reportable=True)])
+            self.expect_refusal(errno.EINVAL, kernel.watches_awaited, 1)
 
     def test_questions(self):
         with Kernel() as kernel:
@@ -451,7 +510,7 @@ class Readme(unittest.TestCase):
     def test_its_programs(self):
         with open(os.path.join(FOLDER, "README.md")) as page:
             programs = re.findall(r"^```python\n(.*?)^```$", page.read(), re.M | re.S)
-        self.assertEqual(len(programs), 4)
+        self.assertEqual(len(programs), 5)
         for program in programs:
             told = run_anew(program)
             self.assertEqual((told.returncode, told.stderr), (0, b""))

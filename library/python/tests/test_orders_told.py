@@ -330,7 +330,7 @@ class Reasons(unittest.TestCase):
         )
 
     def test_equal_data(self):
-        """Which of the two was reported isn't known: the library doesn't tell, and their data is the same."""
+        """The data of both is the same, and the kernel tells which of the two was reported."""
 
         def setup(kernel):
             e = watching(IN | ONESHOT)(kernel)
@@ -341,8 +341,7 @@ class Reasons(unittest.TestCase):
             yield t.write(e.writer, b"a")
 
         self.expect(
-            "daemon at 5: fd 3 shows IN, registered IN|ONESHOT, armed or not, last reported to whom isn't known, as"
-            " others have data 7, too",
+            "daemon at 5: fd 3 shows IN, registered IN|ONESHOT, not armed, reported to daemon in turn 2",
             setup, writer=writer, daemon=sleeper,
         )
 
@@ -406,10 +405,21 @@ class Reasons(unittest.TestCase):
             failure.why, "asleep beside data: b at 5, which would report, and no event woke b",
         )
 
-    def test_no_room_to_ask(self):
-        """The table is full, so nobody can be asked what shows; what is known of the calls is told."""
+    def test_a_full_table(self):
+        """No descriptor is left. The kernel tells what shows nevertheless, as that makes none."""
         failure = failure_of(watching(IN), {"quiet": quiet}, limits=Limits(descriptors=6))
-        self.assertEqual(failure.why, "asleep for good: quiet at 5: fd 3 shows what can't be asked, registered IN")
+        self.assertEqual(failure.why, "asleep for good: quiet at 5: fd 3 shows nothing, registered IN")
+
+    def test_reported_in_setup(self):
+        def setup(kernel):
+            e = watching(IN | ONESHOT)(kernel)
+            kernel.write(e.writer, b"a")
+            kernel.wait(e.instance)
+            return e
+
+        self.expect(
+            "daemon at 5: fd 3 shows IN, registered IN|ONESHOT, not armed, reported in setup", setup, daemon=sleeper,
+        )
 
     def test_what_is_let_be(self):
         faulty = pipe_example(IN | ET, reads_once, 2)

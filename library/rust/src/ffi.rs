@@ -47,6 +47,20 @@ pub struct Waiter {
     pub timeout: Timespec,
 }
 
+/// A registration of an instance.
+#[repr(C)]
+#[derive(Clone, Copy)]
+pub struct Watch {
+    pub fd: c_int,
+    pub events: u32,
+    pub data: u64,
+    pub shown: u32,
+    pub is_armed: c_int,
+    pub is_reportable: c_int,
+    pub reported_in: u64,
+    pub reported_to: u32,
+}
+
 /// `struct epoll_event`, which Linux packs on x86-64.
 #[cfg_attr(target_arch = "x86_64", repr(C, packed))]
 #[cfg_attr(not(target_arch = "x86_64"), repr(C))]
@@ -73,14 +87,6 @@ pub struct Program {
     pub tasks: *const ProgramTask,
     pub count: usize,
     pub check: Option<extern "C" fn(kernel: *mut Kernel, shared: *mut c_void) -> *const c_char>,
-}
-
-#[repr(C)]
-pub struct Watch {
-    pub fd: c_int,
-    pub events: u32,
-    pub data: u64,
-    pub shown: u32,
 }
 
 /// The function of a thread, and what it is given.
@@ -231,6 +237,14 @@ extern "C" {
     pub fn nippersage_is_parked(kernel: *mut Kernel, caller: u32) -> c_int;
     pub fn nippersage_is_marked(kernel: *mut Kernel, caller: u32) -> c_int;
     pub fn nippersage_waiters(kernel: *mut Kernel, waiters: *mut Waiter, room: c_int) -> c_int;
+
+    pub fn nippersage_watches(task: Task, epfd: c_int, watches: *mut Watch, room: c_int) -> c_int;
+    pub fn nippersage_watches_awaited(
+        kernel: *mut Kernel,
+        caller: u32,
+        watches: *mut Watch,
+        room: c_int,
+    ) -> c_int;
 
     pub fn nippersage_read(task: Task, fd: c_int, bytes: *mut c_void, count: usize) -> isize;
     pub fn nippersage_write(task: Task, fd: c_int, bytes: *const c_void, count: usize) -> isize;

@@ -63,6 +63,7 @@ mod owned;
 pub mod poll;
 mod task;
 mod time;
+mod watch;
 
 pub use errno::Errno;
 pub use events::{Event, Events};
@@ -70,6 +71,7 @@ pub use kernel::{Kernel, Limits, Part, Waiter};
 pub use owned::Owned;
 pub use task::{Clock, Fd, Flags, Pid, Task};
 pub use time::Setting;
+pub use watch::Watch;
 
 /// The version of the library, and whether it was proved: `0.2.0, proved in logic ..` or
 /// `0.2.0, unproved`.

@@ -39,22 +39,10 @@ mod unwind;
 pub use result::{Failure, Kind, Outcome, Tried};
 pub(crate) use unwind::leave;
 
-use crate::{Errno, Events, Fd, Kernel, Limits, Task};
+pub use crate::Watch;
+use crate::{Errno, Kernel, Limits, Task};
 use std::ffi::CString;
 use std::time::Duration;
-
-/// A registration that a task sleeps beside.
-#[derive(Clone, Copy, Debug, PartialEq, Eq)]
-pub struct Watch {
-    /// The number that it was made with.
-    pub fd: Fd,
-    /// What it asks for.
-    pub events: Events,
-    /// Its data.
-    pub data: u64,
-    /// What its file shows.
-    pub shown: Events,
-}
 
 type Body<'a, E> = Box<dyn Fn(Task<'_>, &E) -> Result<(), Errno> + Sync + 'a>;
 

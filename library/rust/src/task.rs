@@ -388,8 +388,9 @@ impl Task<'_> {
     /// So a wait for an hour comes back at once if nobody does anything.
     ///
     /// EBADF, EINVAL. EDEADLK if nothing can end the wait: [`Kernel::waiters`] tells who waits at
-    /// what. Then the caller is still parked, and ends its wait by [`resume`](Task::resume). A thread that is between two calls is waited for
-    /// if it [takes part](Kernel::take_part).
+    /// what, and [`Kernel::watches_awaited`] what is registered there. Then the caller is still parked,
+    /// and ends its wait by [`resume`](Task::resume). A thread that is between two calls is waited for if
+    /// it [takes part](Kernel::take_part).
     pub fn epoll_wait(
         self,
         epfd: impl Into<Fd>,

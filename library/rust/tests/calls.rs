@@ -1,6 +1,8 @@
 //! Each call once as it is meant to be, and once refused. Answers are those of the manual pages and of docs/calls.md.
 
-use nippersage::{Clock, Errno, Event, Events, Fd, Flags, Kernel, Limits, Pid, Setting, Waiter};
+use nippersage::{
+    Clock, Errno, Event, Events, Fd, Flags, Kernel, Limits, Pid, Setting, Waiter, Watch,
+};
 use std::io::{self, IoSlice, IoSliceMut, Write};
 use std::net::Shutdown;
 use std::task::Poll;
@@ -439,6 +441,58 @@ fn waits_by_themselves() {
         kernel.task(1).epoll_wait(timer, &mut events, None),
         Err(Errno::EBADF)
     );
+}
+
+/// By hand from docs/calls.md: what is level-triggered stays reportable, and a one-shot is disarmed.
+#[test]
+fn watches() {
+    let kernel = Kernel::new().unwrap();
+    let task = kernel.task(1);
+    let counter = task.eventfd(1, Flags::NONE).unwrap();
+    let (reader, writer) = task.pipe2(Flags::NONE).unwrap();
+    let instance = task.epoll_create1(Flags::NONE).unwrap();
+    let once = Events::IN | Events::ONESHOT;
+    task.epoll_add(instance, counter, Events::IN, 30).unwrap();
+    task.epoll_add(instance, reader, once, 40).unwrap();
+    task.write(writer, b"a").unwrap();
+    let mut events = [Event::default(); 4];
+    // The seventh event.
+    assert_eq!(
+        kernel.task(2).wait_start(instance, &mut events, Some(ms(0))),
+        Ok(Poll::Ready(2))
+    );
+    let level = Watch {
+        fd: counter,
+        events: Events::IN,
+        data: 30,
+        shown: Events::IN | Events::OUT,
+        is_armed: true,
+        is_reportable: true,
+        reported_in: Some(7),
+        reported_to: Some(2),
+    };
+    let one_shot = Watch {
+        fd: reader,
+        events: once,
+        data: 40,
+        shown: Events::IN,
+        is_armed: false,
+        is_reportable: false,
+        ..level
+    };
+    assert_eq!(task.watches(instance), Ok(vec![level, one_shot]));
+    assert_eq!(task.watches(reader), Err(Errno::EINVAL));
+    assert_eq!(task.watches(Fd(77)), Err(Errno::EBADF));
+    assert_eq!(kernel.watches_awaited(3), Err(Errno::EINVAL));
+    task.epoll_del(instance, counter).unwrap();
+    assert_eq!(
+        kernel.task(3).wait_start(instance, &mut events, None),
+        Ok(Poll::Pending)
+    );
+    task.close(instance).unwrap();
+    assert_eq!(kernel.watches_awaited(3), Ok(vec![one_shot]));
+    task.close(reader).unwrap();
+    assert_eq!(kernel.watches_awaited(3), Ok(vec![]));
 }
 
 #[test]

@@ -26,11 +26,11 @@ what is tried and what isn't. It needs the library.
 
 from types import SimpleNamespace as Env
 
+from .._numbers import Watch
 from ._doors import BadTask, Caller, NotATask
 from ._explore import explore
 from ._result import VARIABLE, Failed, Result
 from ._schedule import BadSchedule
-from ._tables import Watch
 from ._tasks import Call, Calls
 from ._world import NotTheSame, Stuck
 

@@ -11,11 +11,12 @@ from typing import Any, Callable, Collection, List, Mapping, NamedTuple, Optiona
 
 from .._kernel import Kernel
 from .._library import LIBRARY
+from .._numbers import Watch
 from ._doors import BadTask
 from ._result import VARIABLE, Failed, Result, Tried, count, failed
 from ._schedule import CLOCK, NAME, Schedule, read_schedule, split_name
 from ._shrink import cost, shrink
-from ._tables import Step, Watch
+from ._tables import Step
 from ._tasks import Workers
 from ._verdict import Verdict, judge
 from ._ways import Every, Given, Pct, Random, Rising, Ways

@@ -1,25 +1,20 @@
-"""Which descriptor names which file, and what each instance watches, by the calls that were made.
+"""Which descriptor names which file, and which files each instance watches, by the calls that were made.
 
 The kernel doesn't tell this. But every call goes by the explorer, with its answer, and docs/calls.md says what a call
-does to descriptors and registrations. So dup, close, fork and numbers that are given out again are followed. What the
-calls don't tell is which of several registrations with the same data a report was of.
+does to descriptors and registrations. So dup, close, fork and numbers that are given out again are followed. What a
+registration shows, whether it is armed, and when it was reported last, the kernel tells.
 """
 
 from __future__ import annotations
 
-from typing import Any, Callable, Dict, Iterable, List, NamedTuple, Optional, Set, Tuple
+import errno
+from typing import Any, Callable, Dict, Iterable, List, NamedTuple, Optional, Sequence, Set, Tuple
 
-from .._library import Library
-from .._numbers import EXCLUSIVE, IN, ONESHOT, OUT, PRI, RDHUP
 
 #: A call of an order: the number of the task, the call, its process, what it was given, and its answer or refusal.
 Step = Tuple[int, str, int, Tuple[Any, ...], Any]
 
-_ADD, _DEL, _MOD = 1, 2, 3
-#: The caller of the explorer's own questions.
-ASKER = (1 << 32) - 1
-#: `Watch.told` if several registrations have the data of the report.
-UNCLEAR = -2
+_ADD, _DEL = 1, 2
 
 
 class File:
@@ -28,22 +23,8 @@ class File:
     __slots__ = ("watches",)
 
     def __init__(self) -> None:
-        self.watches: Dict[Tuple[int, File], Watch] = {}
-
-
-class Watch:
-    """A registration: the number that it was made with, its mask and data.
-
-    `shown` are the bits that its file shows, whatever the mask asks for, or None if that couldn't be asked. `is_armed`
-    is False once a one-shot was reported, and None if that isn't known. `told` is the turn of the last report of it, 0
-    if there was none, and UNCLEAR if that isn't known; `told_to` is the name of the task that got it.
-    """
-
-    def __init__(self, fd: int, file: File, mask: int, data: int) -> None:
-        self.fd, self.file, self.mask, self.data = fd, file, mask, data
-        self.is_armed: Optional[bool] = True
-        self.shown: Optional[int] = None
-        self.told, self.told_by, self.told_to = 0, -1, ""
+        #: The registrations, by the number that each was made with, and its file. The values say nothing.
+        self.watches: Dict[Tuple[int, File], None] = {}
 
 
 class Parked(NamedTuple):
@@ -61,11 +42,8 @@ class Tables:
         plain = File()
         self.of: Dict[int, Dict[int, File]] = {1: {0: plain, 1: plain, 2: plain}}
         self.parked: Dict[int, Parked] = {}
-        self.has_exclusive = False
         self._closing: Set[Tuple[int, int]] = set()
-        self._turn = 0
         for number, op, pid, args, answer in steps:
-            self._turn += number >= 0
             follow = _FOLLOWED.get(op)
             if follow is not None and not isinstance(answer, OSError):
                 follow(self, number, pid, args, answer)
@@ -78,9 +56,9 @@ class Tables:
         """The processes and numbers that name a file."""
         return [(pid, fd) for pid, table in sorted(self.of.items()) for fd, it in sorted(table.items()) if it is file]
 
-    def watches_of(self, file: File) -> List[Watch]:
-        """The registrations of an instance that live, in the order in which they were made."""
-        return [it for it in file.watches.values() if self.is_alive(it.file)]
+    def watched_by(self, instance: File) -> List[File]:
+        """The files of the registrations of an instance that live, in the order in which those were made."""
+        return [file for _, file in instance.watches if self.is_alive(file)]
 
     # What each call does.
     def _open(self, number: int, pid: int, args: Tuple[Any, ...], fd: int) -> None:
@@ -95,36 +73,21 @@ class Tables:
         (self._closing.add if cloexec else self._closing.discard)((pid, fd))
 
     def _ctl(self, number: int, pid: int, args: Tuple[Any, ...], answer: None) -> None:
-        ep, act, fd, mask, data = args
-        watches, file = self.of[pid][ep].watches, self.of[pid][fd]
-        if act == _DEL:
-            watches.pop((fd, file), None)
-            return
-        before = watches.get((fd, file))
-        self.has_exclusive |= bool(mask & EXCLUSIVE)
-        watch = watches[fd, file] = Watch(fd, file, mask, data)
-        if before is not None:
-            watch.told, watch.told_by = before.told, before.told_by
+        ep, act, fd, _, _ = args
+        watches, watch = self.of[pid][ep].watches, (fd, self.of[pid][fd])
+        if act == _ADD:
+            watches[watch] = None
+        elif act == _DEL:
+            del watches[watch]
 
     def _wait(self, number: int, pid: int, args: Tuple[Any, ...], answer: Optional[List[Tuple[int, int]]]) -> None:
         ep = args[0]
         if answer is None:
             self.parked[number] = Parked(self.of[pid][ep], ep, pid)
-        else:
-            self._reported(number, self.of[pid][ep], answer)
 
     def _resume(self, number: int, pid: int, args: Tuple[Any, ...], answer: Optional[List[Tuple[int, int]]]) -> None:
         if answer is not None:
-            self._reported(number, self.parked.pop(number).file, answer)
-
-    def _reported(self, number: int, instance: File, reports: List[Tuple[int, int]]) -> None:
-        for _, data in reports:
-            with_it = [it for it in self.watches_of(instance) if it.data == data]
-            is_clear = len(with_it) == 1
-            for watch in with_it:
-                watch.told, watch.told_by = (self._turn if is_clear else UNCLEAR), number
-                if watch.mask & ONESHOT:
-                    watch.is_armed = False if is_clear else None
+            del self.parked[number]
 
     def _dup(self, number: int, pid: int, args: Tuple[Any, ...], to: int) -> None:
         if to != args[0]:
@@ -153,36 +116,13 @@ _FOLLOWED: Dict[str, Callable[..., None]] = {
 }
 
 
-def shown_by(library: Library, tables: Tables, files: Iterable[File]) -> Dict[File, int]:
-    """The bits that each of these files shows now, asked by a new instance that watches them and is closed again.
-
-    A file that can't be asked is left out: no number names it, or limits allow no further instance or registration.
-    """
-    by_pid: Dict[int, List[Tuple[int, File]]] = {}
-    for file in dict.fromkeys(files):
-        for pid, fd in tables.names_of(file)[:1]:
-            by_pid.setdefault(pid, []).append((fd, file))
-    found: Dict[File, int] = {}
-    for pid, named in by_pid.items():
-        found.update(_shown_in(library, pid, named))
-    return found
-
-
-def _shown_in(library: Library, pid: int, named: List[Tuple[int, File]]) -> Dict[File, int]:
-    who = library.who(ASKER, pid)
-    asked: Dict[int, File] = {}
-    try:
-        instance = library.epoll(who, False)
-    except OSError:
-        return {}
-    for fd, file in named:
-        try:
-            library.ctl(who, instance, _ADD, fd, IN | PRI | OUT | RDHUP, len(asked))
-            asked[len(asked)] = file
-        except OSError:
-            pass
-    reports = library.wait(who, instance, len(asked), 0) if asked else None
-    library.close(who, instance)
-    shown = dict.fromkeys(asked.values(), 0)
-    shown.update({asked[data]: bits for bits, data in reports or ()})
-    return shown
+def turn_of(steps: Sequence[Step], record: int) -> Tuple[int, int]:
+    """The turn of an event, by its place in the history from 1 on, and the number of the task whose it was."""
+    turn = 0
+    for number, op, _, _, answer in steps:
+        turn += number >= 0
+        # A turn without a call has no record, nor has a call that found no memory.
+        record -= op != "shared" and not (isinstance(answer, OSError) and answer.errno == errno.ENOMEM)
+        if record == 0:
+            return turn, number
+    return 0, -1

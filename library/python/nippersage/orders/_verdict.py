@@ -4,8 +4,9 @@ from __future__ import annotations
 
 from typing import Any, List, NamedTuple, Optional, Tuple
 
-from .._numbers import ET, IN, ONESHOT, RDHUP
-from ._tables import UNCLEAR, Parked, Tables, Watch, shown_by
+from .._numbers import ET, IN, ONESHOT, RDHUP, Watch
+from ._doors import SETUP
+from ._tables import File, Parked, Tables, turn_of
 from ._words import bits_text
 from ._world import World
 
@@ -28,14 +29,26 @@ class Verdict(NamedTuple):
         return other is not None and (self.kind, self.mark) == (other.kind, other.mark)
 
 
+class Beside(NamedTuple):
+    """A registration that a task sleeps beside, its file, and when it was reported last, in words."""
+
+    watch: Watch
+    file: File
+    reported: str
+
+
 class Sleeper(NamedTuple):
     """A task that sleeps at the end, where, and what its instance watches."""
 
     name: str
     is_daemon: bool
     at: Parked
-    watches: List[Watch]
-    is_ready: bool
+    watches: List[Beside]
+
+    @property
+    def is_ready(self) -> bool:
+        """Whether its instance would report. Only EXCLUSIVE leaves somebody asleep there."""
+        return any(it.watch.is_reportable for it in self.watches)
 
 
 def judge(world: World) -> Optional[Verdict]:
@@ -90,40 +103,39 @@ def _of_sleepers(world: World) -> Optional[Verdict]:
 
 
 def _sleepers(world: World, tables: Tables) -> List[Sleeper]:
-    """Who sleeps, with what is known of the registrations there.
+    """Who sleeps, with what the kernel tells of the registrations there.
 
-    It is what the calls tell, and what the files show when they are asked. A call of the library that tells of each
-    registration what it shows and to whom it was reported last would take the place of this.
+    It tells those that live in the order in which they were made, as the tables have their files.
     """
-    at = {it.number: tables.parked[it.number] for it in world.asleep}
-    watches = {file: tables.watches_of(file) for file in {it.file for it in at.values()}}
-    files = [watch.file for found in watches.values() for watch in found]
-    # Only EXCLUSIVE leaves somebody asleep at an instance that would report.
-    shown = shown_by(world.library, tables, files + list(watches) * tables.has_exclusive)
-    for watch in (it for found in watches.values() for it in found):
-        watch.shown = shown.get(watch.file)
-        watch.told_to = world.program.name_of(watch.told_by) if watch.told > 0 else ""
-    return [
-        Sleeper(
-            it.name, it.number in world.program.daemons, at[it.number], watches[at[it.number].file],
-            tables.has_exclusive and bool(shown.get(at[it.number].file, 0) & IN),
-        )
-        for it in world.asleep
-    ]
+    found = []
+    for it in world.asleep:
+        at = tables.parked[it.number]
+        told = zip(world.library.watches_awaited(it.by), tables.watched_by(at.file))
+        watches = [Beside(watch, file, _reported_text(world, watch)) for watch, file in told]
+        found.append(Sleeper(it.name, it.number in world.program.daemons, at, watches))
+    return found
 
 
-def _lost(sleeper: Sleeper, beside: Any) -> Optional[List[Watch]]:
+def _reported_text(world: World, watch: Watch) -> str:
+    if watch.reported_in is None:
+        return "never reported"
+    turn, number = turn_of(world.recorder.steps, watch.reported_in)
+    return "reported in setup" if number == SETUP else f"reported to {world.program.name_of(number)} in turn {turn}"
+
+
+def _lost(sleeper: Sleeper, beside: Any) -> Optional[List[Beside]]:
     """The registrations that the sleeper lies beside the data of; none of them if its instance would report."""
     if beside is False:
         return None
-    found = [it for it in sleeper.watches if (it.shown or 0) & it.mask & _DATA]
-    found = [it for it in found if beside is True or beside(it)]
+    found = [it for it in sleeper.watches if it.watch.shown & it.watch.mask & _DATA]
+    found = [it for it in found if beside is True or beside(it.watch)]
     if found:
         return found
-    return [] if sleeper.is_ready and (beside is True or any(map(beside, sleeper.watches))) else None
+    is_passed_over = sleeper.is_ready and (beside is True or any(beside(it.watch) for it in sleeper.watches))
+    return [] if is_passed_over else None
 
 
-def _lost_text(sleeper: Sleeper, lost: Optional[List[Watch]], tables: Tables) -> str:
+def _lost_text(sleeper: Sleeper, lost: Optional[List[Beside]], tables: Tables) -> str:
     where = f"{sleeper.name} at {_instance_text(sleeper)}"
     if not lost:
         return f"{where}, which would report, and no event woke {sleeper.name}"
@@ -140,27 +152,22 @@ def _sleeper_text(sleeper: Sleeper, tables: Tables) -> str:
     return f"{where}: {watched}" if watched else f"{where}, which watches nothing"
 
 
-def _watch_text(watch: Watch, sleeper: Sleeper, tables: Tables) -> str:
-    shown = "what can't be asked" if watch.shown is None else bits_text(watch.shown) if watch.shown else "nothing"
-    text = f"{_file_text(watch, sleeper, tables)} shows {shown}, registered {bits_text(watch.mask)}"
-    if watch.is_armed is not True:
-        text += ", not armed" if watch.is_armed is False else ", armed or not"
-    elif watch.mask & ONESHOT:
-        text += ", armed"
-    if not watch.mask & (ET | ONESHOT):
-        return text
-    if watch.told == UNCLEAR:
-        return f"{text}, last reported to whom isn't known, as others have data {watch.data}, too"
-    return f"{text}, reported to {watch.told_to} in turn {watch.told}" if watch.told else f"{text}, never reported"
+def _watch_text(it: Beside, sleeper: Sleeper, tables: Tables) -> str:
+    watch = it.watch
+    shown = bits_text(watch.shown) if watch.shown else "nothing"
+    text = f"{_file_text(it, sleeper, tables)} shows {shown}, registered {bits_text(watch.mask)}"
+    if watch.mask & ONESHOT:
+        text += ", armed" if watch.is_armed else ", not armed"
+    return f"{text}, {it.reported}" if watch.mask & (ET | ONESHOT) else text
 
 
-def _file_text(watch: Watch, sleeper: Sleeper, tables: Tables) -> str:
+def _file_text(it: Beside, sleeper: Sleeper, tables: Tables) -> str:
     """The number of a registration, and by which number its file is known if that isn't the one."""
-    names = tables.names_of(watch.file)
-    if (sleeper.at.pid, watch.fd) in names:
-        return f"fd {watch.fd}"
+    names, number = tables.names_of(it.file), it.watch.fd
+    if (sleeper.at.pid, number) in names:
+        return f"fd {number}"
     if not names:
-        return f"fd {watch.fd}, closed since,"
-    own = [it for it in names if it[0] == sleeper.at.pid] or names
+        return f"fd {number}, closed since,"
+    own = [name for name in names if name[0] == sleeper.at.pid] or names
     pid, fd = own[0]
-    return f"fd {watch.fd}, now fd {fd}{'' if pid == sleeper.at.pid else f' of process {pid}'},"
+    return f"fd {number}, now fd {fd}{'' if pid == sleeper.at.pid else f' of process {pid}'},"

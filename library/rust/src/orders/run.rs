@@ -4,7 +4,7 @@ use super::result::{told, Failure, Kind, Tried};
 use super::unwind::{in_quiet, keep_quiet};
 use super::{text, How, Orders, Watch};
 use crate::ffi::{self, Run};
-use crate::{Errno, Events, Fd, Kernel};
+use crate::{Errno, Kernel};
 use std::any::Any;
 use std::cell::{RefCell, UnsafeCell};
 use std::env;
@@ -158,12 +158,7 @@ extern "C" fn check<E: Sync>(kernel: *mut ffi::Kernel, shared: *mut c_void) -> *
 extern "C" fn beside<E: Sync>(watch: *const ffi::Watch, shared: *mut c_void) -> c_int {
     // SAFETY: as in `setup`, and the registration lives.
     let (it, watch) = unsafe { (&*shared.cast::<Exploration<'_, '_, E>>(), &*watch) };
-    let watch = Watch {
-        fd: Fd(watch.fd),
-        events: Events::from_bits(watch.events),
-        data: watch.data,
-        shown: Events::from_bits(watch.shown),
-    };
+    let watch = Watch::from(*watch);
     let counts = it.orders.beside.as_ref().map_or(true, |counts| {
         panic::catch_unwind(AssertUnwindSafe(|| counts(watch))).unwrap_or(true)
     });

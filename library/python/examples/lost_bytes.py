@@ -1,10 +1,12 @@
 """Two faults of event loops that hang by luck under Linux, and each time here.
 
-    python3 clients/lost_bytes.py              # every order of writes and turns, on Nippersage
-    python3 clients/lost_bytes.py --linux 200  # so many runs of each loop under this machine's kernel
+    PYTHONPATH=library/python python3 library/python/examples/lost_bytes.py              # on Nippersage
+    PYTHONPATH=library/python python3 library/python/examples/lost_bytes.py --linux 200  # on this machine's kernel
 
-A peer writes "ping" three times. The loop waits, reads 4 bytes at a time, and waits again. Whether
-it gets a turn between two writes is luck under Linux. Here a test tries it both ways.
+A peer writes "ping" three times. A loop waits, reads 4 bytes at a time, and waits again. Whether it gets a turn between
+two writes is luck under Linux: with `--linux N` each loop runs N times, and a line says how often it hung. Here
+`explore` tries the orders of their calls. Of a faulty loop it prints the smallest order that it found, of a right one
+how many orders there are.
 """
 
 import os
@@ -15,11 +17,11 @@ import threading
 import time
 from collections import namedtuple
 
-from nippersage import ET, IN, ONESHOT, Kernel
+from nippersage import ET, IN, ONESHOT
+from nippersage.orders import Env, explore
 
 WRITES = 3
 MESSAGE = b"ping"
-LOOP, PEER = 1, 2  # the two callers
 
 #: What the loop registers for, what it does with a report, and whether it then arms a one-shot again.
 Loop = namedtuple("Loop", "name mask handle rearms")
@@ -48,32 +50,27 @@ LOOPS = [
 ]
 
 
-def take_turns(kernel, loop, instance, reader):
-    """What the loop reads until it sleeps again; nothing if it isn't woken."""
-    got = b""
-    reports = kernel.resume(by=LOOP)
-    while reports:
-        got += loop.handle(lambda: kernel.read(reader, len(MESSAGE), by=LOOP))
-        if loop.rearms:
-            kernel.mod(instance, reader, loop.mask, by=LOOP)
-        reports = kernel.wait(instance, timeout=-1, by=LOOP)
-    return got
+def orders(loop):
+    """The result of the exploration of one loop and its peer."""
 
-
-def run_here(loop, turns):
-    """How many bytes the loop has read an hour after the last write, with a turn after each write as told."""
-    with Kernel() as kernel:
+    def setup(kernel):
         reader, writer = kernel.pipe()
         instance = kernel.epoll()
         kernel.add(instance, reader, loop.mask)
-        assert kernel.wait(instance, timeout=-1, by=LOOP) is None
-        got = b""
-        for turn in turns:
-            kernel.write(writer, MESSAGE, by=PEER)
-            if turn:
-                got += take_turns(kernel, loop, instance, reader)
-        kernel.tick(3_600)
-        return len(got + take_turns(kernel, loop, instance, reader))
+        return Env(reader=reader, writer=writer, instance=instance)
+
+    def turn(t, e):
+        while True:
+            t.wait(e.instance, timeout=None)
+            loop.handle(lambda: t.read(e.reader, len(MESSAGE)))
+            if loop.rearms:
+                t.mod(e.instance, e.reader, loop.mask)
+
+    def peer(t, e):
+        for _ in range(WRITES):
+            t.write(e.writer, MESSAGE)
+
+    return explore(setup, {"loop": turn, "peer": peer}, daemons=["loop"], how="rising", raises=False)
 
 
 def run_on_linux(loop):
@@ -102,14 +99,16 @@ def run_on_linux(loop):
 
 
 def print_here():
-    """A line for each order: the loop gets a turn after the last write, and after the others or not."""
+    """For each loop the order that fails and why, or that none does."""
     for loop in LOOPS:
+        result = orders(loop)
         print(loop.name)
-        for turns in [(a, b, True) for a in (True, False) for b in (True, False)]:
-            order = " ".join("write turn" if turn else "write" for turn in turns)
-            got = run_here(loop, turns)
-            whole = got == WRITES * len(MESSAGE)
-            print(f"  {order:33} {got:2} bytes{'' if whole else ', and asleep for good'}")
+        if result.failure:
+            print(f"  {result.failure.order}: {result.failure.why}")
+        elif result.whole:
+            print(f"  none of all {result.runs} orders hangs")
+        else:
+            print(f"  {result}")
 
 
 def print_linux(runs):
