@@ -89,6 +89,8 @@ pub(crate) struct InRounds {
     second: AtomicU64,
     third: AtomicU64,
     fourth: AtomicU64,
+    /// How many rounds the writer has seen all workers make, before it asked again.
+    seen: AtomicU64,
 }
 
 impl InRounds {
@@ -99,6 +101,7 @@ impl InRounds {
             second: AtomicU64::new(0),
             third: AtomicU64::new(0),
             fourth: AtomicU64::new(0),
+            seen: AtomicU64::new(0),
         }
     }
 
@@ -121,11 +124,21 @@ impl InRounds {
     }
 
     /// Whether the writer may make this step, if so many callers are parked.
+    ///
+    /// Who is parked was told before this question, when the workers may still have been in the round before. So a
+    /// question that finds that all of them have made it is answered no, and only what the next one was told counts.
     fn may_write(&self, step: usize, parked: usize) -> bool {
         if step % WORKERS > 0 {
             return true;
         }
-        self.have_made((step / WORKERS) as u64) && parked == WORKERS
+        let rounds = (step / WORKERS) as u64;
+        if self.seen.load(Ordering::SeqCst) == rounds {
+            return parked == WORKERS;
+        }
+        if self.have_made(rounds) {
+            self.seen.store(rounds, Ordering::SeqCst);
+        }
+        false
     }
 }
 
