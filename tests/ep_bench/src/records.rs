@@ -2,7 +2,7 @@
 //! others are about.
 
 use crate::fault::{Fault, number};
-use ep_audit::audit;
+use ep_audit::audit_history;
 use ep_base::{Buffer, Call, CallerId, Event, Fd, Limits, Mask, Pid, Timeout};
 use ep_plain::{Kernel, PlainKernel};
 use std::alloc::{AllocError, Global};
@@ -54,7 +54,7 @@ fn make_calls<K: Kernel>(
     for number in 0..calls {
         step(kernel, call_of(alloc, number)?);
     }
-    let legal = !audited || audit(alloc, kernel.limits(), kernel.history()).is_ok();
+    let legal = !audited || audit_history(alloc, kernel.limits(), kernel.history()).is_ok();
     Ok((kernel.history().len(), legal))
 }
 

@@ -4,7 +4,7 @@ use crate::difference::{difference, found_in, push_part};
 use crate::events::fault_of_events;
 use crate::forged::fault_of_verdicts;
 use crate::make::Make;
-use ep_audit::{AuditFault, audit};
+use ep_audit::{AuditFault, audit_history};
 use ep_base::Limits;
 use ep_plain::Kernel;
 use ep_script::{ScriptFault, Summary, Watched, run_script};
@@ -62,7 +62,7 @@ fn fault_of_history<K: Kernel>(
     script: &str,
     answers: &str,
 ) -> Result<Option<String>, AllocError> {
-    let place = match audit(alloc, kernel.limits(), kernel.history()) {
+    let place = match audit_history(alloc, kernel.limits(), kernel.history()) {
         Ok(()) => return Ok(None),
         Err(AuditFault::Memory) => return Ok(Some(format!(in alloc; "the audit had no memory")?)),
         Err(AuditFault::Illegal(place)) => place,
@@ -132,7 +132,8 @@ fn fault_of_verdicts_on<K: Kernel>(
     wanted: &str,
 ) -> Result<Option<String>, AllocError> {
     let _ = run(alloc, kernel, script);
-    fault_of_verdicts(alloc, *kernel.limits(), kernel.history(), wanted)
+    let records = kernel.history().copies()?;
+    fault_of_verdicts(alloc, *kernel.limits(), records.as_slice(), wanted)
 }
 
 /// The same of a new kernel of these limits.

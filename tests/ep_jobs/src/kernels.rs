@@ -5,9 +5,10 @@ use crate::fault::Fault;
 use crate::run::Run;
 use crate::server::{Plan, Server};
 use ep_audit::audit;
-use ep_base::{Limits, Record};
+use ep_base::Limits;
 use ep_history::print_record;
 use ep_plain::Kernel;
+use ep_records::History;
 use ep_script::{Watched, read_history};
 use std::alloc::{AllocError, Global};
 
@@ -37,10 +38,10 @@ pub(crate) fn run_server<K: Kernel>(
 }
 
 /// The lines of a history, as a program writes them.
-fn text_of(alloc: Global, records: &[Record]) -> Result<Vec<u8>, AllocError> {
+fn text_of(alloc: Global, records: &History) -> Result<Vec<u8>, AllocError> {
     let mut text = Vec::new(alloc);
-    for record in records {
-        let line = print_record(alloc, record)?;
+    for entry in records.iter() {
+        let line = print_record(alloc, &entry.copy()?)?;
         text.extend_from_slice(line.as_slice())?;
         text.push(b'\n')?;
     }

@@ -1,6 +1,6 @@
 //! What is asked of each kernel.
 
-use ep_audit::audit;
+use ep_audit::audit_history;
 use ep_base::Limits;
 use ep_kernel::ReadyKernel;
 use ep_plain::{Kernel, PlainKernel};
@@ -58,6 +58,6 @@ pub fn on_both_kernels<S: Script, R: Abort + AllocGlobal + Wait>(
 /// Whether a kernel has a history of so many records, which is a run. Where memory for the audit is refused, it is
 /// asked for again.
 pub fn is_run<K: Kernel>(alloc: Global, kernel: &K, records: usize) -> bool {
-    let judged = || audit(alloc, kernel.limits(), kernel.history());
+    let judged = || audit_history(alloc, kernel.limits(), kernel.history());
     kernel.history().len() == records && judged().or_else(|_| judged()).is_ok()
 }

@@ -29,4 +29,6 @@ mod verdicts;
 #[cfg(test)]
 mod versions;
 #[cfg(test)]
+mod watches;
+#[cfg(test)]
 mod workers;

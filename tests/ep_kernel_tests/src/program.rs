@@ -157,9 +157,9 @@ const BAD: &str = "{\"op\":\"pipe\",\"pd\":1}\n\n{\"op\":\"pipe\"}\n{\"op\":\"pi
 
 const BAD_ANSWERS: &str = "{\"bad\":1}\n{\"bad\":2}\n{\"two\":[3,4]}\n{\"bad\":4}\n";
 
-const REASONS: &str = "epsim: line 1: unknown key \"pd\"
+const REASONS: &str = "epsim: line 1: unknown key \"pd\"; did you mean \"pid\"?
 epsim: line 2: empty
-epsim: line 4: unknown op \"pip\"
+epsim: line 4: unknown op \"pip\"; did you mean \"pipe\"?
 epsim: 3 of 4 lines were no command
 ";
 

@@ -6,6 +6,7 @@ use ep_base::{
     Answer, Buffer, Call, CallerId, Errno, Event, Fd, Limits, Mask, Pid, Record, Span, Timeout,
 };
 use ep_plain::Kernel;
+use ep_records::History as Records;
 use ep_shared::laws::same_parts;
 use ep_shared::{Book, FinishFault, History, Session, Shared};
 use std::alloc::{AllocError, Global};
@@ -133,26 +134,36 @@ fn copy_to(records: &[Record], list: &mut Vec<Record>) -> Result<(), AllocError>
     Ok(())
 }
 
-/// The records of all sessions.
+/// The records of all sessions, without the last where that is asked for.
 fn all_records<L: Ledger>(
     alloc: Global,
     sessions: &[Session<L>],
-) -> Result<Vec<Record>, AllocError> {
-    let mut records = Vec::new(alloc);
+    without_last: bool,
+) -> Result<Records, AllocError> {
+    let mut list = Vec::new(alloc);
     for session in sessions {
-        copy_to(session.records(), &mut records)?;
+        copy_to(session.records(), &mut list)?;
+    }
+    if without_last {
+        let _ = list.pop();
+    }
+    let mut records = Records::new(alloc);
+    records.reserve(list.len())?;
+    for one in list {
+        records.push_reserved(one);
     }
     Ok(records)
 }
 
 /// Without the last record of caller 2 its part differs.
-fn differs_without_the_last<L: Ledger>(alloc: Global, sessions: &[Session<L>]) -> bool {
-    let Ok(mut records) = all_records(alloc, sessions) else {
-        return false;
-    };
-    let are_same = same_parts(&records, sessions).is_ok();
-    let _ = records.pop();
-    are_same && matches!(same_parts(&records, sessions), Err(CallerId(2)))
+fn differs_without_the_last<L: Ledger>(
+    alloc: Global,
+    sessions: &[Session<L>],
+) -> Result<bool, AllocError> {
+    let whole = all_records(alloc, sessions, false)?;
+    let part = all_records(alloc, sessions, true)?;
+    let are_same = same_parts(&whole, sessions).is_ok();
+    Ok(are_same && matches!(same_parts(&part, sessions), Err(CallerId(2))))
 }
 
 /// Two sessions of this kernel that were asked all that.
@@ -197,7 +208,7 @@ fn all_come_back<K: Kernel + Drop, L: Ledger, R: Abort + AllocGlobal + Wait>(
 ) -> Result<(), AllocError> {
     let (shared, sessions) = sessions_that_asked::<K, L, R>(rt, blank, kernel)?;
     assert!(rt; are_told(&sessions));
-    assert!(rt; differs_without_the_last(rt.alloc(), &sessions));
+    assert!(rt; differs_without_the_last(rt.alloc(), &sessions)?);
     assert!(rt; is_whole(rt.alloc(), &shared.finish(sessions)));
     Ok(())
 }

@@ -76,7 +76,8 @@ pub(crate) fn judge(alloc: Global, limits: &Limits, records: &[Record]) -> Resul
 
 /// Looks at the history of a kernel that was asked each line of a script.
 fn look<K: Kernel>(asker: &Asker, kernel: &K, row: &Row) -> Result<(), Fault> {
-    let records = kernel.history();
+    let copies = kernel.history().copies()?;
+    let records = copies.as_slice();
     let script = row.script.as_str();
     let answers = row.answers.as_str();
     if !are_records(asker.alloc, asker.version, records, script, answers)? {

@@ -15,7 +15,7 @@ fn has_room_and_no_date(rt: HostRuntime) -> Result<(), Fail> {
 
 fn has_no_date(rt: &impl Abort, dates: &Dates) {
     for number in 0..3 {
-        assert!(rt; dates.since(EntryNumber(number)).0 == 0);
+        assert!(rt; !dates.is_dated(EntryNumber(number)));
     }
     assert!(rt; !dates.is_ready(DescId(2)));
     assert!(rt; !dates.is_ready(DescId(7)));

@@ -3,7 +3,7 @@
 use ep_base::{DescId, EntryId, Errno};
 use ep_nest::Graph;
 use linked_list_allocator::LocalHeap;
-use std::alloc::AllocError;
+use std::alloc::{AllocError, Allocator};
 use std::process::Abort;
 use std::test::Fail;
 
@@ -24,24 +24,25 @@ fn add(
     Ok(())
 }
 
-/// A caller whose filter follows a rule: the instances above one through entries past a bound.
-fn above_past<'a>(graph: &'a mut Graph, inner: DescId, bound: usize) -> &'a [DescId] {
-    graph.above(inner, &|entry: EntryId| entry.0 > bound)
+/// The instance that was the first to watch one, of those that still do.
+fn watcher<A: Allocator>(graph: &Graph<A>, inner: usize) -> Option<DescId> {
+    Some(graph.links_to(DescId(inner))?.next()?.outer)
 }
 
-/// 3 watches 4, which watches 5: 5 may not watch 3. Above 5 stand both, and what is taken away is above no more.
+/// 3 watches 4, which watches 5: 5 may not watch 3. A link that is taken away leads to nothing any more.
 #[test]
-fn instances_stand_above(rt: HostRuntime) {
+fn links_lead_to_instances(rt: HostRuntime) {
     let mut graph = Graph::new(rt.alloc());
-    stands_above(&rt, &mut graph);
+    leads(&rt, &mut graph);
 }
 
-fn stands_above(rt: &impl Abort, graph: &mut Graph) {
+fn leads(rt: &impl Abort, graph: &mut Graph) {
     assert!(rt; add(rt, graph, 3, 4, 1) == Ok(()) && add(rt, graph, 4, 5, 2) == Ok(()));
     assert!(rt; graph.may_add(DescId(5), DescId(3)) == Err(Errno::Eloop));
-    assert!(rt; graph.above(DescId(5), &|_entry: EntryId| true).len() == 2);
-    assert!(rt; above_past(graph, DescId(5), 1) == [DescId(4)].as_slice());
+    assert!(rt; watcher(graph, 5) == Some(DescId(4)) && watcher(graph, 4) == Some(DescId(3)));
+    assert!(rt; watcher(graph, 3).is_none());
     graph.unlink(EntryId(1));
+    assert!(rt; watcher(graph, 4).is_none());
     assert!(rt; graph.links().next().is_some());
     graph.purge(DescId(5));
     assert!(rt; graph.links().next().is_none());
@@ -53,7 +54,7 @@ fn is_refused(rt: &(impl Abort + AllocGlobal), bytes: usize) -> Result<bool, All
     let mut graph = Graph::new(&heap);
     let is_refused = graph.link(DescId(1), DescId(2), EntryId(3)).is_err();
     assert!(rt; graph.is_linked(EntryId(3)) != is_refused);
-    assert!(rt; graph.above(DescId(2), &|_entry: EntryId| true).is_empty() == is_refused);
+    assert!(rt; watcher(&graph, 2).is_none() == is_refused);
     Ok(is_refused)
 }
 

@@ -1,8 +1,8 @@
 //! Lines of records in the form in which they are printed, and nearly in it, as the reader of many lines reads them.
 
-use crate::histories::PRINTED;
 use ep_base::{Answer, Buffer, Call, CallerId, Errno, Event, Fd, Picked, Pid, Record};
 use ep_history::{RecordReader, print_record, read_record};
+use ep_printed::PRINTED;
 use std::process::Abort;
 use std::test::Fail;
 

@@ -1,11 +1,12 @@
 //! Readers of many lines, one after another: each line is read as the function of one line reads it, whatever stood in
 //! the lines before.
 
-use crate::histories::{PRINTED, REFUSED};
+use crate::histories::REFUSED;
 use crate::lines::{COMMANDS, NO_COMMANDS};
 use crate::reasons::FILL;
 use ep_base::{Buffer, Call, CallerId, Event, Fd, Pid, Span};
 use ep_history::{RecordReader, print_record, read_record};
+use ep_printed::PRINTED;
 use ep_text::{Line, LineReader, Version, explain, read_line};
 use std::process::Abort;
 use std::test::Fail;

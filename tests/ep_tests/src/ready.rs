@@ -1,7 +1,8 @@
 //! Ready lists and walks: each call once, and the growth of `make_place` refused over heaps of rising size.
 
 use ep_base::{DescId, EntryId};
-use ep_ready::{ReadyLists, Walk};
+use ep_ready::ReadyLists;
+use ep_walk::Walk;
 use linked_list_allocator::LocalHeap;
 use std::alloc::{AllocError, Allocator};
 use std::process::Abort;

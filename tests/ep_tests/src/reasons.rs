@@ -36,19 +36,6 @@ fn tells_what_is_no_object(rt: HostRuntime) -> Result<(), Fail> {
             b"\xef\xbb\xbf{\"op\":\"pipe\"}",
             "it begins with a byte order mark",
         ),
-        (b"\r", "no JSON: a line is one object, as {\"op\":\"pipe\"}"),
-        (
-            b"# pipe",
-            "no JSON: a line is one object, as {\"op\":\"pipe\"}",
-        ),
-        (
-            b"{\"op\":\"pi",
-            "no JSON: a line is one object, as {\"op\":\"pipe\"}",
-        ),
-        (
-            b"{\"op\":\"pipe\",\"\xff\":1}",
-            "no JSON: a line is one object, as {\"op\":\"pipe\"}",
-        ),
         (
             b"[{\"op\":\"pipe\"}]",
             "no object, as {\"op\":\"pipe\"} is one",
@@ -59,13 +46,38 @@ fn tells_what_is_no_object(rt: HostRuntime) -> Result<(), Fail> {
     Ok(())
 }
 
+// The column is that of the first byte of what can't stand there, or one behind the end of a line that only ends too
+// soon.
+#[test]
+fn tells_where_a_line_is_no_json(rt: HostRuntime) -> Result<(), Fail> {
+    for (line, column) in [
+        (b"\r".as_slice(), 2),
+        (b"# pipe", 1),
+        (b"{\"op\":\"pi", 10),
+        (b"{\"op\":\"pipe\",", 14),
+        (b"{\"op\":\"pipe\",}", 14),
+        (b"{\"op\":\"pipe\"}}", 14),
+        (b"{\"op\":\"pipe\" \"by\":1}", 14),
+        (b"{\"op\":\"pipe\",\"\xff\":1}", 15),
+        (b"{\"op\":\"pi\\qe\"}", 7),
+        (b"{'op':'pipe'}", 2),
+        (b"{\"op\":\"tick\",\"n\":01}", 18),
+    ] {
+        let alloc = rt.alloc();
+        let wanted = format!(in alloc;
+            "no JSON at column {column}: a line is one object, as {{\"op\":\"pipe\"}}"
+        )?;
+        expect(&rt, line, wanted.as_str())?;
+    }
+    Ok(())
+}
+
 #[test]
 fn tells_what_is_wrong_with_op(rt: HostRuntime) -> Result<(), Fail> {
     for (line, wanted) in [
         ("{}", "key \"op\" is missing"),
         ("{\"Op\":\"pipe\"}", "key \"op\" is missing"),
         ("{\"op\":1}", "key \"op\" must be a text"),
-        ("{\"op\":\"pip\",\"fd\":1}", "unknown op \"pip\""),
         ("{\"op\":\"a\\nb\"}", "unknown op \"a\\nb\""),
     ] {
         expect(&rt, line.as_bytes(), wanted)?;
@@ -91,7 +103,7 @@ fn tells_what_is_wrong_with_a_version(rt: HostRuntime) -> Result<(), Fail> {
             "no object, as {\"op\":\"pipe\"} is one",
         ),
         ("{\"version\":2,\"op\":1}", "key \"op\" must be a text"),
-        ("{\"version\":2,\"op\":\"pip\"}", "unknown op \"pip\""),
+        ("{\"version\":2,\"op\":\"xy\"}", "unknown op \"xy\""),
         ("{\"version\":2,\"op\":\"pipe\"}", "unknown key \"version\""),
     ] {
         expect(&rt, line.as_bytes(), wanted)?;
@@ -104,7 +116,7 @@ fn tells_what_is_wrong_with_a_version(rt: HostRuntime) -> Result<(), Fail> {
 #[test]
 fn tells_an_unknown_key(rt: HostRuntime) -> Result<(), Fail> {
     for (line, wanted) in [
-        ("{\"op\":\"pipe\",\"pd\":1}", "unknown key \"pd\""),
+        ("{\"op\":\"pipe\",\"fd\":1}", "unknown key \"fd\""),
         (
             "{\"op\":\"read\",\"fd\":\"3\",\"m\":1}",
             "unknown key \"m\"",
@@ -122,6 +134,55 @@ fn tells_an_unknown_key(rt: HostRuntime) -> Result<(), Fail> {
         ),
     ] {
         expect(&rt, line.as_bytes(), wanted)?;
+    }
+    Ok(())
+}
+
+// The nearest name: at most two edits away, and fewer than what stands there has bytes; of several the first in the
+// order of the table.
+#[test]
+fn asks_whether_another_op_was_meant(rt: HostRuntime) -> Result<(), Fail> {
+    for (name, asked) in [
+        ("pip", "; did you mean \"pipe\"?"),
+        ("Pipe", "; did you mean \"pipe\"?"),
+        ("socket_pairs", "; did you mean \"socketpair\"?"),
+        ("dup3", "; did you mean \"dup\"?"),
+        ("etime", "; did you mean \"gettime\"?"),
+        ("tic", "; did you mean \"tick\"?"),
+        ("epoll_wait", ""),
+        ("select", ""),
+        ("pi", ""),
+        ("", ""),
+    ] {
+        let alloc = rt.alloc();
+        let line = format!(in alloc; "{{\"op\":\"{name}\"}}")?;
+        let wanted = format!(in alloc; "unknown op \"{name}\"{asked}")?;
+        expect(&rt, line.as_bytes(), wanted.as_str())?;
+    }
+    Ok(())
+}
+
+// Only the keys of the op count, and not `op`: those of the table in its order, then `pid`, then `by`.
+#[test]
+fn asks_whether_another_key_was_meant(rt: HostRuntime) -> Result<(), Fail> {
+    for (op, key, asked) in [
+        ("read", "pd", "; did you mean \"fd\"?"),
+        ("pipe", "pd", "; did you mean \"pid\"?"),
+        ("ctl", "epfd", "; did you mean \"ep\"?"),
+        ("wait", "timout", "; did you mean \"timeout\"?"),
+        ("pipe", "close_exec", ""),
+        ("pipe", "closeexec", "; did you mean \"cloexec\"?"),
+        ("tick", "num", "; did you mean \"n\"?"),
+        ("tick", "m", ""),
+        ("ctl", "dat", "; did you mean \"data\"?"),
+        ("fork", "dat", ""),
+        ("resume", "bi", "; did you mean \"by\"?"),
+        ("resume", "ob", ""),
+    ] {
+        let alloc = rt.alloc();
+        let line = format!(in alloc; "{{\"op\":\"{op}\",\"{key}\":1}}")?;
+        let wanted = format!(in alloc; "unknown key \"{key}\"{asked}")?;
+        expect(&rt, line.as_bytes(), wanted.as_str())?;
     }
     Ok(())
 }
