@@ -2,7 +2,6 @@
 ghost use Rattle.std.specs.Prelude.{◌≡◌, ◌++◌, ◌∷◌, [], IfOk, List, Some, false};
 ghost use Rattle.ep_base.specs.Limits.{Limits as Bounds};
 ghost use Rattle.ep_base.specs.declared.record.Record.{Record as Recorded};
-ghost use Rattle.ep_audit.specs.Auditor.{HasAllowed, HasMadeInstead, Judges};
 
 use crate::verdict::follow;
 use ep_base::{Limits, Record};
@@ -14,9 +13,12 @@ use std::alloc::{AllocError, Global};
 #[derive(Drop)]
 pub struct Auditor {
     kernel: PlainKernel,
+    ghost whole: { kernel.taken ≡ [] },
 }
 
 impl Auditor {
+    ghost use Rattle.ep_audit.specs.Auditor.{HasAllowed, HasMadeInstead, Judges};
+
     /// It has allowed no record yet.
     pub fn new(alloc: Global, limits: &Limits) -> Result<Auditor, AllocError>
         ensures { IfOk result (λ auditor. HasAllowed limits.now [] auditor) }

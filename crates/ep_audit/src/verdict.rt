@@ -52,6 +52,7 @@ fn is_answered(answer: &Answer, next: &Record) -> Result<bool, AllocError>
 /// Makes the step that the machine has here for the event of a record, whatever it reports. An `Err` is want of memory.
 fn make_step(kernel: &mut PlainKernel, next: &Record) -> Result<(), AllocError>
     ensures limits { kernel.new.limits ≡ kernel.old.limits }
+    ensures taken { kernel.new.taken ≡ kernel.old.taken }
     ensures made { OnOk result
         (HasMade kernel.old.limits (state_of kernel.old) next.now kernel.new.past) }
 {
@@ -67,6 +68,7 @@ fn make_step(kernel: &mut PlainKernel, next: &Record) -> Result<(), AllocError>
 /// After an `Err`, which is want of memory, the kernel is in any state.
 pub(crate) fn follow(kernel: &mut PlainKernel, next: &Record) -> Result<bool, AllocError>
     ensures limits { kernel.new.limits ≡ kernel.old.limits }
+    ensures taken { kernel.new.taken ≡ kernel.old.taken }
     ensures goes { IfOk result
         (Follows kernel.old.limits (state_of kernel.old) (state_of kernel.new) next.now) }
     ensures made { IfOk result (λ goes. goes ≡ false

@@ -1,5 +1,5 @@
 //! What every kernel promises.
-ghost use Rattle.std.specs.Prelude.{◌≡◌, ◌+◌, ◌<◌, ◌≤◌, ℕ, List, None, OnOk, Some, false, length, true, vec_capacity, vec_len};
+ghost use Rattle.std.specs.Prelude.{◌≡◌, ◌+◌, ◌<◌, ◌≤◌, ◌^◌, ℕ, List, None, OnErr, OnOk, Some, [], drop, false, length, true, vec_capacity, vec_len};
 ghost use Rattle.std.specs.Option.{option_map};
 ghost use Rattle.ep_base.specs.Call.{EventHasNoBytes};
 ghost use Rattle.ep_base.specs.Limits.{Limits as Numbers};
@@ -11,9 +11,10 @@ ghost use Rattle.ep_calls.specs.Acts.{Acts, ComesLast, is_no_memory};
 ghost use Rattle.ep_calls.specs.Driver.{TellsNext, first_marked};
 ghost use Rattle.ep_calls.specs.KeptRecords.{KeepsRecord};
 ghost use Rattle.ep_calls.specs.Spared.{IsSpared};
+ghost use Rattle.ep_records.specs.Past.{whole};
 
 use ep_base::{Answer, CallerId, Event, Limits, Moment, Record};
-use ep_records::History;
+use ep_records::{History, TooManyEvents};
 use std::alloc::AllocError;
 
 /// A kernel that processes make calls on. Each event is one step of the abstract machine
@@ -22,14 +23,17 @@ pub trait Kernel {
     /// The state of the machine that it stands for.
     ghost state: { Self → State };
 
-    /// The history.
+    /// The records of all steps, in order.
     ghost past: { Self → List Entry };
+
+    /// Those of them, from the first on, that were taken out.
+    ghost taken: { Self → List Entry };
 
     /// The limits that it was made with.
     ghost bounds: { Self → Numbers };
 
-    /// How many records the history may have before a step asks for memory for its record. A kernel that tells
-    /// nothing of it has room for none.
+    /// How many records there may be before a step asks for memory for its own. A kernel that tells nothing of it has
+    /// room for none.
     ghost capacity: { Self → ℕ } = { λ _. 0 };
 
     /// One event. The answer is one that the machine allows here, a refusal too, and the history gains its record.
@@ -44,6 +48,7 @@ pub trait Kernel {
     /// ENOMEM comes last: if there is room for the record, no refusal of the machine holds.
     fn step(&mut self, caller: CallerId, event: Event) -> Answer
         ensures limits { bounds self.new ≡ bounds self.old }
+        ensures taken { taken self.new ≡ taken self.old }
         ensures capacity { capacity self.old ≤ capacity self.new }
         ensures spared { IsSpared (state self.old).files event
             → length (past self.old) < capacity self.old → is_no_memory result ≡ false }
@@ -60,6 +65,7 @@ pub trait Kernel {
     /// copy takes no memory, no refusal of the machine holds.
     fn step_kept(&mut self, caller: CallerId, event: Event, kept: &mut Vec<Record>) -> Answer
         ensures limits { bounds self.new ≡ bounds self.old }
+        ensures taken { taken self.new ≡ taken self.old }
         ensures capacity { capacity self.old ≤ capacity self.new }
         ensures last { EventHasNoBytes event → vec_len kept.old < vec_capacity kept.old
             → length (past self.old) < capacity self.old
@@ -76,12 +82,36 @@ pub trait Kernel {
         ensures capacity { capacity self.old ≤ capacity self.new }
         ensures limits { bounds self.new ≡ bounds self.old }
         ensures state { state self.new ≡ state self.old }
-        ensures history { past self.new ≡ past self.old };
+        ensures history { past self.new ≡ past self.old }
+        ensures taken { taken self.new ≡ taken self.old };
 
-    /// The records of all steps, in order: a run of the machine that leads to the present state.
+    /// The records of all steps, in order, but for those that were taken out. With these before them they are a run of
+    /// the machine that leads to the present state.
     fn history(&self) -> &History
-        ensures past { result.now.items ≡ past self.now }
-        ensures replays { run (bounds self.now) opening result.now.items ≡ Some (state self.now) };
+        ensures taken { result.now.taken ≡ taken self.now }
+        ensures past { whole result.now ≡ past self.now }
+        ensures here { result.now.items ≡ drop (length (taken self.now)) (past self.now) }
+        ensures replays { run (bounds self.now) opening (whole result.now) ≡ Some (state self.now) };
+
+    /// Takes the records out, and goes on with the room of another history, which has no record. That one has them
+    /// then, and `history` has none until the next step; events are numbered on. So whoever reads, clears and swaps
+    /// one history again and again holds a few records of a run of any length. It takes constant time and no memory.
+    /// Room goes with the histories, so this is the one call that may lower it. An `Err`, past 2^62 records, changes
+    /// nothing.
+    fn swap_history(&mut self, other: &mut History) -> Result<(), TooManyEvents>
+        requires empty { other.old.items ≡ [] }
+        ensures few { OnOk result (length (past self.old) ≤ 2 ^ 62) }
+        ensures before { OnOk result (other.new.taken ≡ taken self.old) }
+        ensures out { OnOk result (whole other.new ≡ past self.old) }
+        ensures taken { OnOk result (taken self.new ≡ past self.old) }
+        ensures given { OnOk result
+            (length (past self.old) + other.new.room ≡ capacity self.old) }
+        ensures room { OnOk result (capacity self.new ≡ length (past self.old) + other.old.room) }
+        ensures past { past self.new ≡ past self.old }
+        ensures state { state self.new ≡ state self.old }
+        ensures limits { bounds self.new ≡ bounds self.old }
+        ensures many { OnErr result (2 ^ 62 < length (past self.old)) }
+        ensures err { OnErr result ((self.new ≡ self.old) × (other.new ≡ other.old)) };
 
     /// The limits that the kernel was made with.
     fn limits(&self) -> &Limits

@@ -103,6 +103,7 @@ impl Outcome {
           picked = self.picked;
         } ∷ [] }
         ensures room { history.old.room ≤ history.new.room + 1 }
+        ensures taken { history.new.taken ≡ history.old.taken }
     {
         if kept {
             let (answer, spare) = self.put_twice(history, caller, event);
@@ -126,6 +127,7 @@ impl Outcome {
           picked = self.picked;
         } ∷ [] }
         ensures room { history.old.room ≤ history.new.room + 1 }
+        ensures taken { history.new.taken ≡ history.old.taken }
     {
         let Outcome {
             answer,
@@ -161,6 +163,7 @@ impl Outcome {
           picked = self.picked;
         } ∷ [] }
         ensures room { history.old.room ≤ history.new.room + 1 }
+        ensures taken { history.new.taken ≡ history.old.taken }
     {
         let Outcome {
             answer,

@@ -2,13 +2,13 @@
 use Rattle.std.proofs.Common.{◌≡◌, ◌≤◌, ◌∷◌, ◌∙◌, [], List, MatchOption, None, Ok, Option, Result, Some, ap, arith, length, map, refl, subst, suc, take, zero, ℕ, ℤ}
 use Rattle.ep_base.specs.declared.errno.Errno.{Errno}
 use Rattle.ep_base.specs.declared.errno.Errno.TheVariants.{Einval}
-use Rattle.ep_base.specs.declared.record.Record.{Record}
 use Rattle.ep_exports.specs.Watches.{IsRefused, IsTold, Stands, WatchRoom, flat_watch}
 use Rattle.ep_flat.specs.Flat.{overlaid}
 use Rattle.ep_flat.specs.declared.flat.FlatWatch.{FlatWatch}
 use Rattle.ep_kernel.specs.Watches.{Tells, TellsNone, laid_over, told_at}
 use Rattle.ep_kernel.specs.declared.watches.Watch.{Watch}
 use Rattle.ep_machine.specs.State.{State, Waiter}
+use Rattle.ep_records.specs.Past.{Past}
 
 -- Of more than there are, all are taken.
 pub take_more : {X : Type 0} (n : ℕ) (xs : List X) → length xs ≤ n → take (length xs) xs ≡ take n xs
@@ -27,7 +27,7 @@ laid_out f (w ∷ watches) (x ∷ told) [] same = absurd (omega (arith, same))
 laid_out f (w ∷ watches) (x ∷ told) (y ∷ room) same = ap (λ (ys : List FlatWatch). f w ∷ ys) (laid_out f watches told room (omega (arith, same)))
 
 -- What was told of all registrations, or refused, and is laid out.
-module _ (past : List Record) (r : Result ℕ Errno) (blank told : List Watch) (before after : WatchRoom) (result : ℤ) (put : IsTold past r told before after result) where
+module _ (past : Past) (r : Result ℕ Errno) (blank told : List Watch) (before after : WatchRoom) (result : ℤ) (put : IsTold past r told before after result) where
   pub stands : (watches : List Watch) → length blank ≡ length before.watches → Tells watches r blank told → Stands past watches before after result
   stands watches same tells =
       let done : IsTold past (Ok (length watches)) told before after result = subst (λ (x : Result ℕ Errno). IsTold past x told before after result) tells.0 put in (

@@ -39,6 +39,7 @@ pub record Answered (old new : ReadyBook) (request : FlatRequest) (given : List 
   pub answer : Answer
   pub asked : Asks request given event
   pub limits : new.book.limits ≡ old.book.limits
+  pub taken : new.book.taken ≡ old.book.taken
   pub capacity : old.book.capacity ≤ new.book.capacity
   pub spared : IsSpared (state_of old).files event → length old.book.past < old.book.capacity → is_no_memory answer ≡ false
   pub last : length old.book.past < old.book.capacity → ComesLast old.book.limits (record { 0 = request.caller }) event answer (state_of old)

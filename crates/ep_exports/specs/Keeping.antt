@@ -17,7 +17,7 @@ limits_in n = record {
 
 -- a kernel in its opening state
 abbrev pub opened : Limits → ReadyBook
-opened limits = record { book = record { limits = limits; past = []; capacity = 0 }; lists = [] }
+opened limits = record { book = record { limits = limits; past = []; taken = []; capacity = 0 }; lists = [] }
 
 abbrev pub Opened : Option ReadyBook → FlatLimits → Option ReadyBook → ℤ → Type 0
 Opened None limits new result =
@@ -34,6 +34,7 @@ Closed (Some kernel) new result = (result ≡ fine) × (new ≡ None)
 pub record KeepsAll (old new : ReadyBook) : Type 0 where
   pub limits : new.book.limits ≡ old.book.limits
   pub past : new.book.past ≡ old.book.past
+  pub taken : new.book.taken ≡ old.book.taken
   pub capacity : old.book.capacity ≤ new.book.capacity
 
 abbrev pub Reserved : Option ReadyBook → ℕ → Option ReadyBook → ℤ → Type 0

@@ -24,6 +24,10 @@ invalid = negsuc 21
 abbrev pub no_such_event : ℤ
 no_such_event = negsuc 37
 
+-- EOVERFLOW
+abbrev pub no_number : ℤ
+no_number = negsuc 74
+
 -- EBADMSG
 abbrev pub illegal : ℤ
 illegal = negsuc 73

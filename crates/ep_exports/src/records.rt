@@ -1,20 +1,22 @@
 //! The history.
-ghost use Rattle.std.specs.Prelude.{◌≡◌, IfOk};
+ghost use Rattle.std.specs.Prelude.{◌≡◌, ◌<◌, ◌≤◌, ◌^◌, IfOk, OnErr, OnOk, length};
 ghost use Rattle.ep_history.specs.Records.{record_line};
 ghost use Rattle.ep_records.specs.Said.{said_answer};
 ghost use Rattle.ep_exports.specs.Events.{IsLaidOut};
-ghost use Rattle.ep_exports.specs.Records.{AskedRecords, Checked, IsPrinted, Printed, Recorded};
+ghost use Rattle.ep_exports.specs.Records.{AskedRecords, Checked, Forgets, Forgot, IsPrinted, Printed, Recorded};
 
-use crate::status::{EBADF, EBADMSG, EINVAL, EMSGSIZE, ENOMEM};
+use crate::status::{EBADF, EBADMSG, EINVAL, EMSGSIZE, ENOMEM, EOVERFLOW};
 use ep_audit::{AuditFault, audit_history};
 use ep_calls::Kernel;
 use ep_flat::{FlatReply, FlatReport, put_answer, put_bytes, put_given, put_told};
 use ep_handle::Handle;
 use ep_history::print_record;
-use ep_records::{Entry, Said};
+use ep_kernel::ReadyKernel;
+use ep_records::{Entry, History, Said, TooManyEvents};
 use std::alloc::{AllocError, Global};
 
-/// How many records the history has, one for each event that wasn't answered ENOMEM: 0 and the count, or -EBADF.
+/// How many records are there: one for each event that wasn't answered ENOMEM since `ep_forget`. 0 and the count, or
+/// -EBADF.
 #[unsafe(no_mangle)]
 pub extern "C" fn ep_records(alloc: Global, handle: &mut Handle, count: &mut usize) -> i32
     ensures { AskedRecords handle.old.state.kernel handle.new.state.kernel count.old count.new
@@ -132,8 +134,46 @@ pub extern "C" fn ep_line(
     }
 }
 
-/// Makes each record of the history again on a kernel that scans: 0 if the machine allows them all, or -EBADF, or
-/// -ENOMEM, or -EBADMSG if it doesn't, which the contract of the kernel rules out. The kernel stays.
+/// Takes the records out of a kernel and forgets them. Their room stays. An `Err` leaves them.
+fn forget(alloc: Global, kernel: &mut ReadyKernel) -> Result<(), TooManyEvents>
+    ensures few { OnOk result (length kernel.old.book.past ≤ 2 ^ 62) }
+    ensures forgets { OnOk result (Forgets kernel.old kernel.new) }
+    ensures many { OnErr result (2 ^ 62 < length kernel.old.book.past) }
+    ensures err { OnErr result (kernel.new ≡ kernel.old) }
+{
+    let mut out = History::new(alloc);
+    kernel.swap_history(&mut out)?;
+    out.clear();
+    match kernel.swap_history(&mut out) {
+        Ok(()) => Ok(()),
+        // No event came between, so there are as few as before.
+        Err(_) => unreachable!(),
+    }
+}
+
+/// Forgets the records that are there, so that they take no more memory however long the kernel runs. Who wants them
+/// takes their lines before. Events are numbered on, and there is no less room for records. `ep_check` tells nothing of
+/// use from then on. 0, or with nothing changed -EBADF, or -EOVERFLOW past 2^62 events. It takes no memory.
+#[unsafe(no_mangle)]
+pub extern "C" fn ep_forget(alloc: Global, handle: &mut Handle) -> i32
+    ensures { Forgot handle.old.state.kernel handle.new.state.kernel result }
+{
+    match handle.take(alloc) {
+        None => -EBADF,
+        Some(mut kernel) => {
+            let result = match forget(alloc, &mut kernel) {
+                Ok(()) => 0,
+                Err(_) => -EOVERFLOW,
+            };
+            handle.put(kernel);
+            result
+        }
+    }
+}
+
+/// Makes each record that is there again on a kernel that scans: 0 if the machine allows them all, or -EBADF, or
+/// -ENOMEM, or -EBADMSG if it doesn't. The contract of the kernel rules that out, as long as none was forgotten. The
+/// kernel stays.
 #[unsafe(no_mangle)]
 pub extern "C" fn ep_check(alloc: Global, handle: &mut Handle) -> i32
     ensures { Checked handle.old.state.kernel handle.new.state.kernel result }

@@ -18,5 +18,8 @@ pub(crate) const ENOSYS: i32 = 38;
 /// The history is no run of the machine.
 pub(crate) const EBADMSG: i32 = 74;
 
+/// The events can be numbered no further.
+pub(crate) const EOVERFLOW: i32 = 75;
+
 /// There is too little room for the answer.
 pub(crate) const EMSGSIZE: i32 = 90;

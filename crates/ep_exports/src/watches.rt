@@ -33,11 +33,11 @@ fn room_for(alloc: Global, count: usize) -> Result<Vec<Watch>, AllocError>
     Ok(told)
 }
 
-/// The caller of an event, by its place in the history from 1 on; 0 if the history has no such event.
+/// The caller of an event; 0 if the history has no record of it.
 fn reporter(past: &History, event: EventNumber) -> u32
-    ensures { result ≡ reporter past.now.items event }
+    ensures { result ≡ reporter past.now event }
 {
-    match past.get(event.0.saturating_sub(1) as usize) {
+    match past.numbered(event) {
         None => 0,
         Some(entry) => entry.caller().0,
     }
@@ -45,7 +45,7 @@ fn reporter(past: &History, event: EventNumber) -> u32
 
 /// What is told of a registration, as C has it.
 fn flat_watch(past: &History, watch: &Watch) -> FlatWatch
-    ensures { result ≡ flat_watch past.now.items watch.now }
+    ensures { result ≡ flat_watch past.now watch.now }
 {
     let mut flat = FlatWatch {
         tag: watch.tag,
@@ -66,7 +66,7 @@ fn flat_watch(past: &History, watch: &Watch) -> FlatWatch
 
 /// Lays out what was told at the beginning of the room, as far as it reaches.
 fn put_watches(past: &History, told: &[Watch], room: &mut [FlatWatch])
-    ensures { room.new ≡ overlaid room.old (map (flat_watch past.now.items) told.now) }
+    ensures { room.new ≡ overlaid room.old (map (flat_watch past.now) told.now) }
 {
     let mut at = 0;
     while at < told.len() && at < room.len() {
@@ -84,7 +84,7 @@ fn put_asked(
     room: &mut [FlatWatch],
     count: &mut usize,
 ) -> i32
-    ensures { IsTold past.now.items answer told.now
+    ensures { IsTold past.now answer told.now
         (record { watches = room.old; count = count.old })
         (record { watches = room.new; count = count.new }) result }
 {

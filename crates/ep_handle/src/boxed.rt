@@ -8,8 +8,10 @@ use std::alloc::{AllocError, Global};
 
 /// A kernel in its opening state, on the heap. An `Err` is want of memory.
 pub fn new_kernel(alloc: Global, limits: Limits) -> Result<Box<ReadyKernel>, AllocError>
-    ensures { IfOk result (λ kernel. kernel.value
-        ≡ record { book = record { limits = limits; past = []; capacity = 0 }; lists = [] }) }
+    ensures { IfOk result (λ kernel. kernel.value ≡ record {
+      book = record { limits = limits; past = []; taken = []; capacity = 0 };
+      lists = [];
+    }) }
 {
     let kernel = ReadyKernel::new(alloc, limits)?;
     Ok(Box::new(alloc, kernel)?)

@@ -17,6 +17,7 @@ use Rattle.ep_kernel.specs.Stands.{HasRoom}
 use Rattle.ep_kernel.specs.declared.beside.Beside.{Beside}
 use Rattle.ep_kernel.specs.declared.ready.ReadyKernel.TheInside.{Inside}
 use Rattle.ep_ready.specs.ReadyLists.{Lists}
+use Rattle.ep_records.specs.Past.{whole}
 
 -- the history leads to a state for which the parts stand, each reportable registration stands on its list, and the
 -- lists are in a fair order
@@ -27,13 +28,18 @@ pub record Runs (past : List Record) (p : Parts) (l : Lists) : Type 0 where
 
 abbrev pub book_of : Inside → ReadyBook
 book_of k = record {
-  book = record { limits = k.parts.tables.limits; past = k.history.items; capacity = length k.history.items + k.history.room };
+  book = record {
+    limits = k.parts.tables.limits;
+    past = whole k.history;
+    taken = k.history.taken;
+    capacity = length (whole k.history) + k.history.room;
+  };
   lists = lists_of k.parts k.beside.lists;
 }
 
 -- the same, each timer has its moment, what is reportable is among the hopes, there is room, and nothing is lost
 pub record IsRunning (k : Inside) : Type 0 where
-  pub runs : Runs k.history.items k.parts k.beside.lists
+  pub runs : Runs (whole k.history) k.parts k.beside.lists
   pub set : AreSet k.parts.tables k.parts.clock k.alarms
   pub hopes : HopesFor k.parts k.beside.asked.hopes
   pub room : HasRoom k.parts.interest k.beside

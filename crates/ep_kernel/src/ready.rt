@@ -24,13 +24,13 @@ use crate::beside::Beside;
 use crate::settle::{know, rest, spread};
 use crate::watches::{Watch, ask, find_named, find_wait};
 use ep_alarms::{Alarms, find_called};
-use ep_base::{Answer, CallerId, Errno, Event, EventNumber, Fd, Limits, Moment, Pid, Record};
+use ep_base::{Answer, CallerId, Errno, Event, Fd, Limits, Moment, Pid, Record};
 use ep_calls::{Kernel, Parts, Request, Spare};
 use ep_climb::{attend, left, resumed_at};
 use ep_law::laws::{ends_are_apart, reportables_are_spread};
 use ep_order::{lists_go_on, marked_are_looked_at};
 use ep_ready::ReadyLists;
-use ep_records::History;
+use ep_records::{History, TooManyEvents};
 use std::alloc::{AllocError, Global};
 use std::marker::Model;
 
@@ -83,8 +83,10 @@ impl ReadyKernel {
     /// and an empty history. An `Err` is want of memory.
     pub fn new(alloc: Global, limits: Limits) -> Result<ReadyKernel, AllocError>
         ensures { IfOk result
-            (λ kernel. kernel
-            ≡ record { book = record { limits = limits; past = []; capacity = 0 }; lists = [] }) }
+            (λ kernel. kernel ≡ record {
+              book = record { limits = limits; past = []; taken = []; capacity = 0 };
+              lists = [];
+            }) }
     {
         Ok(ReadyKernel {
             parts: Parts::new(alloc, limits)?,
@@ -159,6 +161,7 @@ impl ReadyKernel {
         kept: bool,
     ) -> Result<(Answer, Option<Spare>), AllocError>
         ensures limits { self.new.book.limits ≡ self.old.book.limits }
+        ensures taken { self.new.book.taken ≡ self.old.book.taken }
         ensures capacity { self.old.book.capacity ≤ self.new.book.capacity }
         ensures ok { IfOk result
             (λ r. Adds self.old.book.limits caller event r.0 (state_of self.old) (state_of self.new)
@@ -177,7 +180,7 @@ impl ReadyKernel {
     {
         self.history.reserve(1)?;
         let has_room = self.alarms.make_room(&event);
-        let step = EventNumber(self.history.len() as u64 + 1);
+        let step = self.history.next_number();
         know_laws(&self.parts, &self.beside.lists);
         let called = find_called(&self.parts, &event);
         let resumed = resumed_at(&self.parts, caller, &event);
@@ -217,6 +220,7 @@ impl ReadyKernel {
         kept: &mut Vec<Record>,
     ) -> Result<Answer, AllocError>
         ensures limits { self.new.book.limits ≡ self.old.book.limits }
+        ensures taken { self.new.book.taken ≡ self.old.book.taken }
         ensures capacity { self.old.book.capacity ≤ self.new.book.capacity }
         ensures ok { IfOk result
             (λ answer. Adds self.old.book.limits caller event answer (state_of self.old)
@@ -261,6 +265,8 @@ impl Kernel for ReadyKernel {
 
     ghost past = { λ kernel. kernel.book.past };
 
+    ghost taken = { λ kernel. kernel.book.taken };
+
     ghost bounds = { λ kernel. kernel.book.limits };
 
     ghost capacity = { λ kernel. kernel.book.capacity };
@@ -271,6 +277,7 @@ impl Kernel for ReadyKernel {
     /// left it reportable. So a refusal adds nothing to a list, and ENOMEM leaves the lists.
     fn step(&mut self, caller: CallerId, event: Event) -> Answer
         ensures limits { self.new.book.limits ≡ self.old.book.limits }
+        ensures taken { self.new.book.taken ≡ self.old.book.taken }
         ensures capacity { self.old.book.capacity ≤ self.new.book.capacity }
         ensures spared { IsSpared (state_of self.old).files event
             → length self.old.book.past < self.old.book.capacity → is_no_memory result ≡ false }
@@ -290,6 +297,7 @@ impl Kernel for ReadyKernel {
     /// as in `step`.
     fn step_kept(&mut self, caller: CallerId, event: Event, kept: &mut Vec<Record>) -> Answer
         ensures limits { self.new.book.limits ≡ self.old.book.limits }
+        ensures taken { self.new.book.taken ≡ self.old.book.taken }
         ensures capacity { self.old.book.capacity ≤ self.new.book.capacity }
         ensures last { EventHasNoBytes event → vec_len kept.old < vec_capacity kept.old
             → length self.old.book.past < self.old.book.capacity
@@ -312,6 +320,10 @@ impl Kernel for ReadyKernel {
 
     fn history(&self) -> &History {
         &self.history
+    }
+
+    fn swap_history(&mut self, other: &mut History) -> Result<(), TooManyEvents> {
+        self.history.swap(other)
     }
 
     fn limits(&self) -> &Limits {

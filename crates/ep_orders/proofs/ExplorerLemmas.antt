@@ -1,5 +1,6 @@
 -- From one order to the next.
-use Rattle.std.proofs.Common.{◌≡◌, ◌∷◌, ◌+◌, ◌-◌, ◌∙◌, [], List, ap, ap₂, arith, drop, length, map, refl, subst, suc, sym, take, zero, zip, ℕ}
+use Rattle.std.proofs.Common.{nat_lt, ◌≡◌, ◌<◌, ◌∷◌, ◌+◌, ◌-◌, ◌∙◌, [], Bool, List, None, Some, ap, ap₂, arith, drop, false, if◌then◌else◌, length, map, refl, slice_get, subst, suc, sym, take, true, zero, zip, ℕ}
+use Rattle.std.proofs.lemmas.Bool.{ltb-true}
 use Rattle.std.proofs.lemmas.List.{drop-take}
 use Rattle.std.proofs.Math.Seq.{drop-append_seam, take-append_seam}
 use Rattle.ep_base.specs.Limits.{Limits}
@@ -10,6 +11,8 @@ use Rattle.ep_machine.specs.State.{State, opening}
 use Rattle.ep_paths.specs.declared.choice.Choice.{Choice}
 use Rattle.ep_paths.specs.Paths.{Comes}
 use Rattle.ep_orders.specs.declared.turn.Turn.{Turn}
+use Rattle.ep_records.proofs.WholeLemmas.{numbered_in}
+use Rattle.ep_records.specs.Past.{Past, numbered, whole}
 use Rattle.ep_orders.specs.Explorer.{IsChosen}
 use Rattle.ep_orders.specs.Orders.{SetsUp, first_place}
 use Rattle.ep_orders.specs.Place.{Move, World}
@@ -92,3 +95,16 @@ module _ (w : World) (setup : List (CallerId × Event)) (path whole : List Choic
 
   pub told_moves : map (λ (t : Choice × Move). t.1) (zip whole (zip turns (drop (length setup) past))) ≡ zip turns (drop (length setup) past)
   told_moves = zip_seconds whole (zip turns (drop (length setup) past)) (sym moves_each)
+
+-- the record of an event that is here stands in its place among all
+numbered_by : (b : Bool) (h : Past) (n : ℕ) (x : Record) → nat_lt (length h.taken) (n + 1) ≡ b
+    → (if b then slice_get h.items (n + 1 - (length h.taken + 1)) else None) ≡ Some x → slice_get (whole h) n ≡ Some x
+numbered_by false h n x lt e = cc
+numbered_by true h n x lt e =
+    let out : length h.taken < n + 1 = ltb-true (length h.taken) (n + 1) lt in
+    let at : n + 1 - 1 ≡ n = omega arith in
+    ap (λ k. slice_get (whole h) k) (sym at) ∙ sym (numbered_in h (n + 1) out)
+    ∙ ap (λ b. if b then slice_get h.items (n + 1 - (length h.taken + 1)) else None) lt ∙ e
+
+pub numbered_some : (h : Past) (n : ℕ) (x : Record) → numbered h (n + 1) ≡ Some x → slice_get (whole h) n ≡ Some x
+numbered_some h n x e = numbered_by (nat_lt (length h.taken) (n + 1)) h n x refl e

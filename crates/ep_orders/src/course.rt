@@ -53,6 +53,7 @@ fn is_no_memory(answer: &Answer) -> bool
 /// Hands an event to a kernel. The error is want of memory, by which nothing was done.
 fn ask<K: Kernel>(kernel: &mut K, caller: CallerId, event: Event) -> Result<(), Fault>
     ensures limits { K.bounds kernel.new ≡ K.bounds kernel.old }
+    ensures taken { K.taken kernel.new ≡ K.taken kernel.old }
     ensures enters { IfOk result (λ _. Enters (K.bounds kernel.old) caller event
         (K.state kernel.old) (K.state kernel.new) (K.past kernel.old) (K.past kernel.new)) }
 {
@@ -65,6 +66,7 @@ fn ask<K: Kernel>(kernel: &mut K, caller: CallerId, event: Event) -> Result<(), 
 
 fn set_up<K: Kernel>(kernel: &mut K, setup: &[(CallerId, Event)]) -> Result<(), Fault>
     ensures limits { K.bounds kernel.new ≡ K.bounds kernel.old }
+    ensures taken { K.taken kernel.new ≡ K.taken kernel.old }
     ensures records { IfOk result (λ _. (records : List Entry)
         × (K.past kernel.new ≡ K.past kernel.old ++ records)
         × SetsUp (K.bounds kernel.old) (K.state kernel.old) setup.now records (K.state kernel.new)) }
@@ -116,6 +118,7 @@ impl<'a, K: Kernel> Course<'a, K> {
             ≡ first_place (world_of K.bounds w) (K.state w.kernel)) }
         ensures setup { IfOk result (λ w. SetsUp (K.bounds kernel) opening
             scenario.now.setup.items (K.past w.kernel) (K.state w.kernel)) }
+        ensures taken { IfOk result (λ w. K.taken w.kernel ≡ []) }
         ensures turns { IfOk result (λ w. w.turns.items ≡ []) }
     {
         let _none = kernel.history();
@@ -399,6 +402,7 @@ impl<'a, K: Kernel> Course<'a, K> {
             × (K.past self.new.kernel ≡ K.past self.old.kernel ++ r ∷ [])
             × Took (world_of K.bounds self.old) (place_of K.state self.old) moment turn
             (place_of K.state self.new) r) }
+        ensures taken { K.taken self.new.kernel ≡ K.taken self.old.kernel }
     {
         let Some((caller, event)) = self.asked(turn, moment)? else {
             return Err(Fault::NotTheSame);
@@ -435,6 +439,7 @@ impl<'a, K: Kernel> Course<'a, K> {
             → HasEnded (world_of K.bounds self.old) (place_of K.state self.old)) }
         ensures kept { IfOk result (λ more. more ≡ false → self.new ≡ self.old) }
         ensures path { IfOk result (λ more. more ≡ false → path.new.items ≡ path.old.items) }
+        ensures taken { K.taken self.new.kernel ≡ K.taken self.old.kernel }
     {
         let moment = self.next_moment();
         self.find_ways(moment, ways)?;

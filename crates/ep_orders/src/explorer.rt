@@ -3,13 +3,14 @@ ghost use Rattle.std.specs.Prelude.{◌≡◌, ◌+◌, [], IfOk, length, take, 
 ghost use Rattle.ep_base.specs.Limits.{Limits as Numbers};
 ghost use Rattle.ep_orders.specs.Explorer.{Told, given_of, world_in};
 ghost use Rattle.ep_orders.specs.Course.{Walked, world_of};
+ghost use Rattle.ep_records.specs.Past.{whole};
 
 use crate::course::{Course, MOST_TURNS};
 use crate::fault::Fault;
 use crate::scenario::Scenario;
 use crate::turn::{Rules, Turn};
 use crate::visitor::Visitor;
-use ep_base::Record;
+use ep_base::{EventNumber, Record};
 use ep_calls::Kernel;
 use ep_paths::{Choice, Runs};
 use ep_records::{Entry, History};
@@ -47,10 +48,12 @@ fn are_same_entries(one: &Entry<'_>, other: &Entry<'_>) -> Result<bool, AllocErr
 
 /// Whether two histories have the same records up to a place. An `Err` is want of memory for a copy.
 fn is_same_history(a: &History, b: &History, up_to: usize) -> Result<bool, AllocError>
-    ensures { IfOk result (λ same. same ≡ true → take up_to a.now.items ≡ take up_to b.now.items) }
+    ensures { IfOk result
+        (λ same. same ≡ true → take up_to (whole a.now) ≡ take up_to (whole b.now)) }
 {
     for place in 0..up_to {
-        let (Some(x), Some(y)) = (a.get(place), b.get(place)) else {
+        let number = EventNumber(place as u64 + 1);
+        let (Some(x), Some(y)) = (a.numbered(number), b.numbered(number)) else {
             return Ok(false);
         };
         let same = are_same_entries(&x, &y)?;
@@ -84,6 +87,7 @@ impl<'a, M: Makes<K>, K: Kernel + Drop, V: Visitor> Explorer<'a, M, K, V> {
         ensures walked { IfOk result (λ w. Walked (world_in M.limits self.now)
             self.now.scenario.now.setup.items path.old.items path.new.items w.turns.items
             (K.past w.kernel)) }
+        ensures taken { IfOk result (λ w. K.taken w.kernel ≡ []) }
     {
         let kernel = self.maker.make(self.alloc)?;
         let mut course = Course::begin(self.alloc, kernel, self.scenario, self.rules)?;

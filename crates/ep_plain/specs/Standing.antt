@@ -11,9 +11,15 @@ use Rattle.ep_plain.specs.Exact.{TellsReady}
 use Rattle.ep_plain.specs.Since.{IsDated}
 use Rattle.ep_plain.specs.declared.dating.Dating.{Dating}
 use Rattle.ep_plain.specs.declared.plain.PlainKernel.TheInside.{Inside}
+use Rattle.ep_records.specs.Past.{whole}
 
 abbrev pub book_of : Inside → Book
-book_of k = record { limits = k.parts.tables.limits; past = k.history.items; capacity = length k.history.items + k.history.room }
+book_of k = record {
+  limits = k.parts.tables.limits;
+  past = whole k.history;
+  taken = k.history.taken;
+  capacity = length (whole k.history) + k.history.room;
+}
 
 -- the history leads to a state for which the parts stand and whose dates are kept: they tell which instances are ready,
 -- don't sink along a row, and fit the registrations
@@ -27,5 +33,5 @@ pub record Standing (past : List Record) (p : Parts) (d : Dating) : Type 0 where
 
 -- the same, and each timer has its moment
 pub record IsStanding (k : Inside) : Type 0 where
-  pub standing : Standing k.history.items k.parts k.dating
+  pub standing : Standing (whole k.history) k.parts k.dating
   pub set : AreSet k.parts.tables k.parts.clock k.alarms

@@ -20,12 +20,12 @@ use crate::dating::Dating;
 use crate::settle::{know, rest, spread};
 use crate::these::{act_with, allows};
 use ep_alarms::{Alarms, find_called};
-use ep_base::{Answer, CallerId, EntryNumber, Errno, Event, EventNumber, Limits, Moment, Record};
+use ep_base::{Answer, CallerId, EntryNumber, Errno, Event, Limits, Moment, Record};
 use ep_calls::{Kernel, Parts, Request, Spare};
 use ep_climb::{attend, left, resumed_at};
 use ep_law::laws::{ends_are_apart, reportables_are_spread};
 use ep_order::{marked_are_looked_at, untouched_stay_reportable};
-use ep_records::{History, Numbers};
+use ep_records::{History, Numbers, TooManyEvents};
 use std::alloc::{AllocError, Global};
 use std::marker::Model;
 
@@ -91,7 +91,7 @@ impl PlainKernel {
     /// and an empty history. An `Err` is want of memory.
     pub fn new(alloc: Global, limits: Limits) -> Result<PlainKernel, AllocError>
         ensures { IfOk result
-            (λ kernel. kernel ≡ record { limits = limits; past = []; capacity = 0 }) }
+            (λ kernel. kernel ≡ record { limits = limits; past = []; taken = []; capacity = 0 }) }
     {
         let parts = Parts::new(alloc, limits)?;
         Ok(PlainKernel {
@@ -118,6 +118,7 @@ impl PlainKernel {
             (option_copied picks) }
         requires kept { IfSome (option_copied picks) (λ _. kept ≡ false) }
         ensures limits { self.new.limits ≡ self.old.limits }
+        ensures taken { self.new.taken ≡ self.old.taken }
         ensures capacity { self.old.capacity ≤ self.new.capacity }
         ensures ok { IfOk result
             (λ r. AddsBy self.old.limits caller event (option_copied picks.entry) r.0
@@ -134,7 +135,7 @@ impl PlainKernel {
     {
         self.history.reserve(1)?;
         let has_room = self.alarms.make_room(&event);
-        let step = EventNumber(self.history.len() as u64 + 1);
+        let step = self.history.next_number();
         know_laws(&self.parts);
         let called = find_called(&self.parts, &event);
         let resumed = resumed_at(&self.parts, caller, &event);
@@ -192,6 +193,7 @@ impl PlainKernel {
         picks: &[EntryNumber],
     ) -> Option<Answer>
         ensures limits { self.new.limits ≡ self.old.limits }
+        ensures taken { self.new.taken ≡ self.old.taken }
         ensures capacity { self.old.capacity ≤ self.new.capacity }
         ensures last { IfSome result (λ answer. length self.old.past < self.old.capacity
             → ComesLast self.old.limits caller event answer (state_of self.old)) }
@@ -217,6 +219,7 @@ impl PlainKernel {
         kept: &mut Vec<Record>,
     ) -> Result<Answer, AllocError>
         ensures limits { self.new.limits ≡ self.old.limits }
+        ensures taken { self.new.taken ≡ self.old.taken }
         ensures capacity { self.old.capacity ≤ self.new.capacity }
         ensures ok { IfOk result
             (λ answer. Adds self.old.limits caller event answer (state_of self.old)
@@ -257,6 +260,8 @@ impl Kernel for PlainKernel {
 
     ghost past = { λ book. book.past };
 
+    ghost taken = { λ book. book.taken };
+
     ghost bounds = { λ book. book.limits };
 
     ghost capacity = { λ book. book.capacity };
@@ -281,6 +286,10 @@ impl Kernel for PlainKernel {
 
     fn history(&self) -> &History {
         &self.history
+    }
+
+    fn swap_history(&mut self, other: &mut History) -> Result<(), TooManyEvents> {
+        self.history.swap(other)
     }
 
     fn limits(&self) -> &Limits {

@@ -1,2 +1,3 @@
 pub mod KeptLemmas
 pub mod SameLists
+pub mod WholeLemmas

@@ -1,6 +1,7 @@
 //! The history of a kernel.
 ghost use Rattle.std.specs.Prelude.{◌≡◌, ◌↔◌, ◌+◌, ◌-◌, ◌<◌, ◌≤◌, [], ◌∷◌, ◌++◌, ◌^◌, IfOk, IsFalse, IsOk, IsTrue, List, OnOk, Some, drop, length, slice_get};
 ghost use Rattle.ep_base.specs.declared.record.Record.{Record as Whole};
+ghost use Rattle.ep_records.specs.Past.{numbered, whole};
 ghost use Rattle.ep_records.specs.Short.{IsSilentShort, IsToldShort};
 
 use crate::beside::Beside;
@@ -8,17 +9,24 @@ use crate::entry::Entry;
 use crate::iter::Iter;
 use crate::many::{listed_bytes, listed_reports};
 use crate::slot::Slot;
-use ep_base::{Answer, CallerId, EntryNumber, Event, Record};
+use crate::taken::Taken;
+use ep_base::{Answer, CallerId, EntryNumber, Event, EventNumber, Record};
 use std::alloc::{AllocError, Global};
 use std::marker::Model;
 
-/// Records in order. A record takes 48 bytes if its numbers and bytes are few, as those of nearly all are. Long lists
-/// of reports and long bytes stand beside these 48 bytes if there is memory; any other record stands whole beside them.
-/// Contracts see the records, and how many more fit, whatever they are, before memory is asked for.
+/// Records in order, behind those that were taken out. A record takes 48 bytes if its numbers and bytes are few, as
+/// those of nearly all are. Long lists of reports and long bytes stand beside these 48 bytes if there is memory; any
+/// other record stands whole beside them.
+/// Contracts see the records, those that were taken out before them, and how many more fit, whatever they are, before
+/// memory is asked for.
 #[derive(Drop)]
 pub struct History {
     pub(crate) slots: Vec<Slot>,
     pub(crate) beside: Beside,
+    /// How many were taken out.
+    pub(crate) before: u64,
+    /// Those that were.
+    pub(crate) taken: Taken,
 }
 
 impl Model for History {
@@ -36,12 +44,22 @@ impl Model for History {
 impl History {
     /// No record and no room, which takes no memory.
     pub fn new(alloc: Global) -> History
-        ensures { result ≡ record { items = []; room = 0 } }
+        ensures { result ≡ record { taken = []; items = []; room = 0 } }
     {
         History {
             slots: Vec::new(alloc),
             beside: Beside::new(alloc),
+            before: 0,
+            taken: Taken::none(),
         }
+    }
+
+    /// The number of the next event, if each record is that of one: the first event of all is number 1.
+    #[inline(always)]
+    pub fn next_number(&self) -> EventNumber
+        ensures { result ≡ length (whole self.now) + 1 }
+    {
+        EventNumber(self.before + self.slots.len() as u64 + 1)
     }
 
     /// How many records there are.
@@ -63,7 +81,7 @@ impl History {
     /// comes where memory is refused and not where there is room already; and there is no less room than before.
     /// It moves the slots and the long records where they have to grow, so many calls cost a constant time each.
     pub fn reserve(&mut self, additional: usize) -> Result<(), AllocError>
-        ensures items { self.new.items ≡ self.old.items }
+        ensures stays { self.new ≡ record self.old { room = self.new.room } }
         ensures ok { OnOk result (additional ≤ self.new.room) }
         ensures room { self.old.room ≤ self.new.room }
         ensures succeeds { additional ≤ self.old.room → IsOk result }
@@ -100,6 +118,7 @@ impl History {
         } ∷ [] }
         ensures other { IsFalse result → self.new ≡ self.old }
         ensures room { self.old.room ≤ self.new.room + 1 }
+        ensures taken { self.new.taken ≡ self.old.taken }
         ensures short { picked.now ≡ [] → IsSilentShort event.now answer.now → IsTrue result }
         ensures told { IsToldShort event.now answer.now picked.now → IsTrue result }
     {
@@ -118,6 +137,7 @@ impl History {
         requires { 0 < self.old.room }
         ensures items { self.new.items ≡ self.old.items ++ one ∷ [] }
         ensures room { self.old.room ≤ self.new.room + 1 }
+        ensures taken { self.new.taken ≡ self.old.taken }
     {
         if !self.push_short(one.caller, &one.event, &one.answer, one.picked.as_slice()) {
             self.push_long(one);
@@ -130,6 +150,7 @@ impl History {
         requires { 0 < self.old.room }
         ensures items { self.new.items ≡ self.old.items ++ one ∷ [] }
         ensures room { self.old.room ≤ self.new.room + 1 }
+        ensures taken { self.new.taken ≡ self.old.taken }
     {
         let (reports, bytes) = (listed_reports(&one), listed_bytes(&one));
         if reports == 0 && bytes == 0 {
@@ -147,6 +168,7 @@ impl History {
         requires { 0 < self.old.room }
         ensures items { self.new.items ≡ self.old.items ++ one ∷ [] }
         ensures room { self.old.room ≤ self.new.room + 1 }
+        ensures taken { self.new.taken ≡ self.old.taken }
     {
         let place = self.beside.push_long(one);
         self.slots.push_reserved(Slot::whole(place));
@@ -163,6 +185,20 @@ impl History {
             }),
             None => None,
         }
+    }
+
+    /// The record of the event of this number, if each record is that of one. `None` if it was taken out, or isn't
+    /// there yet, or the number is 0.
+    pub fn numbered(&self, event: EventNumber) -> Option<Entry<'_>>
+        ensures here { result ≡ numbered self.now event }
+        ensures place { length self.now.taken < event
+            → result ≡ slice_get (whole self.now) (event - 1) }
+    {
+        if event.0 <= self.before {
+            return None;
+        }
+        let place = usize::try_from(event.0 - self.before - 1).ok()?;
+        self.get(place)
     }
 
     /// The last record. `None` where there is none.
@@ -217,6 +253,7 @@ impl History {
     pub fn clear(&mut self)
         ensures items { self.new.items ≡ [] }
         ensures room { self.old.room ≤ self.new.room }
+        ensures taken { self.new.taken ≡ self.old.taken }
     {
         self.slots.clear();
         self.beside.clear();

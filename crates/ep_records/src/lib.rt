@@ -12,6 +12,8 @@ mod pack;
 mod parts;
 mod said;
 mod slot;
+mod swap;
+mod taken;
 mod unpack;
 mod words;
 
@@ -20,3 +22,4 @@ pub use crate::history::History;
 pub use crate::iter::Iter;
 pub use crate::numbers::Numbers;
 pub use crate::said::Said;
+pub use crate::swap::TooManyEvents;

@@ -52,6 +52,7 @@ impl History {
         } ∷ [] }
         ensures other { IsFalse result → self.new ≡ self.old }
         ensures room { self.old.room ≤ self.new.room + 1 }
+        ensures taken { self.new.taken ≡ self.old.taken }
     {
         if reports.len() != numbers.len() {
             return false;
@@ -85,6 +86,7 @@ impl History {
         } ∷ [] }
         ensures other { IsFalse result → self.new ≡ self.old }
         ensures room { self.old.room ≤ self.new.room + 1 }
+        ensures taken { self.new.taken ≡ self.old.taken }
     {
         if reports.len() != numbers.len() {
             return false;
@@ -115,6 +117,7 @@ impl History {
             ++ quiet slot.caller slot.pid (read_call slot.fd slot.n) (Answer.Bytes bytes.now) ∷ [] }
         ensures other { IsFalse result → self.new ≡ self.old }
         ensures room { self.old.room ≤ self.new.room + 1 }
+        ensures taken { self.new.taken ≡ self.old.taken }
     {
         match self.beside.push_bytes(bytes) {
             Some(place) => {
@@ -138,6 +141,7 @@ impl History {
             ++ quiet slot.caller slot.pid (write_call slot.fd bytes.now) (Answer.Num slot.z) ∷ [] }
         ensures other { IsFalse result → self.new ≡ self.old }
         ensures room { self.old.room ≤ self.new.room + 1 }
+        ensures taken { self.new.taken ≡ self.old.taken }
     {
         match self.beside.push_bytes(bytes) {
             Some(place) => {
@@ -170,6 +174,7 @@ impl History {
         } ∷ [] }
         ensures other { IsFalse result → self.new ≡ self.old }
         ensures room { self.old.room ≤ self.new.room + 1 }
+        ensures taken { self.new.taken ≡ self.old.taken }
     {
         match event {
             Event::Call {
@@ -201,6 +206,7 @@ impl History {
             ++ made caller event.now (Answer.Bytes bytes.now) ∷ [] }
         ensures other { IsFalse result → self.new ≡ self.old }
         ensures room { self.old.room ≤ self.new.room + 1 }
+        ensures taken { self.new.taken ≡ self.old.taken }
     {
         match event {
             Event::Call {
@@ -230,6 +236,7 @@ impl History {
             ++ made caller event.now (Answer.Num taken) ∷ [] }
         ensures other { IsFalse result → self.new ≡ self.old }
         ensures room { self.old.room ≤ self.new.room + 1 }
+        ensures taken { self.new.taken ≡ self.old.taken }
     {
         match event {
             Event::Call {
@@ -274,6 +281,7 @@ impl History {
         } ∷ [] }
         ensures other { IsFalse result → self.new ≡ self.old }
         ensures room { self.old.room ≤ self.new.room + 1 }
+        ensures taken { self.new.taken ≡ self.old.taken }
     {
         match answer {
             Answer::Events(reports) => {

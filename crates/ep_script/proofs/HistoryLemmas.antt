@@ -1,5 +1,5 @@
 -- What stands in the history's writer, record by record.
-use Rattle.std.proofs.Common.{List, Option, IfSome, Err, Result, [], ap, append-nil, append_assoc, arith, inl, inr, length, refl, sym, take, ℕ, ◌+◌, ◌++◌, ◌≡◌, ◌≤◌, ◌∙◌, ◌∷◌, ◌⊎◌}
+use Rattle.std.proofs.Common.{List, Option, IfSome, Err, Result, [], ap, append-nil, append_assoc, arith, inl, inr, length, refl, sym, take, ℕ, ◌+◌, ◌-◌, ◌++◌, ◌≡◌, ◌≤◌, ◌∙◌, ◌∷◌, ◌⊎◌}
 use Rattle.std.specs.Io.KnownBytes.{Appends}
 use Rattle.std.proofs.Math.Seq.{take-append-add}
 use Rattle.ep_base.specs.declared.record.Record.{Record}
@@ -22,6 +22,10 @@ history_text_more : (xs ys : List Record) → history_text (xs ++ ys) ≡ histor
 history_text_more [] ys = refl
 history_text_more (x ∷ xs) ys =
     ap (λ t. record_line x ++ 10 ∷ t) (history_text_more xs ys) ∙ sym (append_assoc (record_line x) (10 ∷ history_text xs) (history_text ys))
+
+-- the place of the next record
+pub at_next : (number count past : ℕ) → number ≡ count + 1 → count ≡ past → number - 1 ≡ past
+at_next number count past e f = omega (arith, e, f)
 
 -- the line of the only record that came
 line_here : (h g : List Record) → length g ≤ 1 → line_at (length h) (h ++ g) ≡ history_text g

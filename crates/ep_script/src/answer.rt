@@ -10,7 +10,7 @@ use crate::held::Gathered;
 use crate::summary::LineKind;
 use crate::watched::Watched;
 use ep_base::{Answer, Errno};
-use ep_plain::Kernel;
+use ep_calls::Kernel;
 use ep_text::{Line, LineReader, Version, push_answer, push_bad, push_header};
 use std::alloc::{AllocError, Global};
 use std::io::Write;
@@ -62,6 +62,7 @@ fn ask<K: Kernel>(
     desk: &mut Desk,
 ) -> Result<LineKind, AllocError>
     ensures limits { K.bounds kernel.new ≡ K.bounds kernel.old }
+    ensures taken { K.taken kernel.new ≡ K.taken kernel.old }
     ensures ok { IfOk result
         (λ kind. Tells (asks desk.old.version number line.now) desk.old.version desk.new.version
         number kind (string_bytes desk.new.text) (K.past kernel.old) (K.past kernel.new)) }
@@ -105,6 +106,7 @@ pub(crate) fn answer_line<K: Kernel, W: Write>(
     desk: &mut Desk,
 ) -> Result<LineKind, ScriptFault>
     ensures limits { K.bounds kernel.new ≡ K.bounds kernel.old }
+    ensures taken { K.taken kernel.new ≡ K.taken kernel.old }
     ensures room { desk.new.gathered.room ≡ desk.old.gathered.room }
     ensures ok { IfOk result
         (λ kind. (words : List ℕ)

@@ -1,14 +1,15 @@
 //! Keeps the records of a run, or keeps none.
 ghost use Rattle.std.specs.Io.KnownBytes.{Appends};
-ghost use Rattle.std.specs.Prelude.{◌≡◌, ◌⊎◌, ℕ, Bool, IfErr, IfOk, IsErrOf, List, None, OnErr, OnOk, Option, Some, false, take, true};
+ghost use Rattle.std.specs.Prelude.{◌≡◌, ◌⊎◌, ◌-◌, ◌<◌, ℕ, Bool, IfErr, IfOk, IsErrOf, List, None, OnErr, OnOk, Option, Some, false, length, take, true};
 ghost use Rattle.ep_script.specs.Lines.{most_gathered};
 ghost use Rattle.ep_script.specs.Recorded.{line_at, line_if};
 
 use crate::emit::emit;
 use crate::fault::RecordedFault;
 use crate::watched::Watched;
+use ep_base::EventNumber;
+use ep_calls::Kernel;
 use ep_history::print_record;
-use ep_plain::Kernel;
 use ep_records::Entry;
 use std::alloc::{AllocError, Global};
 use std::io::Write;
@@ -38,20 +39,21 @@ pub(crate) trait Keeper {
     fn room(&self) -> usize
         ensures { result ≡ room };
 
-    /// Keeps the record at this place of the kernel's history, if there is one.
+    /// Keeps the record of the event of this number, if there is one.
     fn keep<K: Kernel>(
         &mut self,
         alloc: Global,
         kernel: &K,
-        place: usize,
+        number: EventNumber,
     ) -> Result<(), RecordedFault>
-        ensures ok { OnOk result
-            (Appends (contents self.old) (contents self.new) (line_at place (K.past kernel.now))) }
+        requires { length (K.taken kernel.now) < number }
+        ensures ok { OnOk result (Appends (contents self.old) (contents self.new)
+            (line_at (number - 1) (K.past kernel.now))) }
         ensures flag { OnOk result (failed self.new ≡ failed self.old) }
         ensures once { failed self.old ≡ false → asked_after self.new ≡ asked_after self.old }
         ensures part { OnErr result
             ((n : ℕ) × Appends (contents self.old) (contents self.new)
-            (take n (line_at place (K.past kernel.now)))) }
+            (take n (line_at (number - 1) (K.past kernel.now)))) }
         ensures err { IfErr result (λ e. (e ≡ RecordedFault.History) ⊎ (e ≡ RecordedFault.Memory)) }
         ensures err_flag { IsErrOf result RecordedFault.History → failed self.new ≡ true }
         ensures may { OnErr result (may_fail ≡ true) }
@@ -81,7 +83,7 @@ impl Keeper for Nothing {
         &mut self,
         _alloc: Global,
         _kernel: &K,
-        _place: usize,
+        _number: EventNumber,
     ) -> Result<(), RecordedFault> {
         Ok(())
     }
@@ -116,9 +118,9 @@ impl<H: Write> Keeper for Watched<H> {
         &mut self,
         alloc: Global,
         kernel: &K,
-        place: usize,
+        number: EventNumber,
     ) -> Result<(), RecordedFault> {
-        let Some(entry) = kernel.history().get(place) else {
+        let Some(entry) = kernel.history().numbered(number) else {
             return Ok(());
         };
         let Ok(line) = line_of(alloc, &entry) else {

@@ -13,7 +13,7 @@ use crate::fault::{RecordedFault, ScriptFault};
 use crate::keep::{Keeper, Nothing};
 use crate::summary::Summary;
 use crate::watched::Watched;
-use ep_plain::Kernel;
+use ep_calls::Kernel;
 use std::alloc::Global;
 use std::io::{Read, Write};
 
@@ -53,6 +53,7 @@ pub fn run_script<K: Kernel, R: Read, W: Write>(
     requires fresh_reader { reader.old.failed ≡ false }
     requires fresh_writer { writer.old.failed ≡ false }
     ensures limits { K.bounds kernel.new ≡ K.bounds kernel.old }
+    ensures taken { K.taken kernel.new ≡ K.taken kernel.old }
     ensures transcript { IfOk result (λ summary. IfSome (R.remaining reader.old.inner) (λ input.
         Whole input (W.contents writer.old.inner) (W.contents writer.new.inner)
         (K.past kernel.old) (K.past kernel.new) summary)) }
@@ -109,6 +110,7 @@ pub fn run_recorded<K: Kernel, R: Read, W: Write, H: Write>(
     requires fresh_writer { writer.old.failed ≡ false }
     requires fresh_history { history.old.failed ≡ false }
     ensures limits { K.bounds kernel.new ≡ K.bounds kernel.old }
+    ensures taken { K.taken kernel.new ≡ K.taken kernel.old }
     ensures transcript { IfOk result (λ summary. IfSome (R.remaining reader.old.inner) (λ input.
         Whole input (W.contents writer.old.inner) (W.contents writer.new.inner)
         (K.past kernel.old) (K.past kernel.new) summary)) }
@@ -165,6 +167,7 @@ fn run_keeping<K: Kernel, R: Read, W: Write, T: Keeper>(
     requires fresh_writer { writer.old.failed ≡ false }
     requires fresh_history { T.failed keeper.old ≡ false }
     ensures limits { K.bounds kernel.new ≡ K.bounds kernel.old }
+    ensures taken { K.taken kernel.new ≡ K.taken kernel.old }
     ensures transcript { IfOk result (λ summary. IfSome (R.remaining reader.old.inner) (λ input.
         Whole input (W.contents writer.old.inner) (W.contents writer.new.inner)
         (K.past kernel.old) (K.past kernel.new) summary)) }
@@ -226,12 +229,12 @@ fn run_keeping<K: Kernel, R: Read, W: Write, T: Keeper>(
             Ok(false) => return Ok(summary),
             Err(fault) => return Err(RecordedFault::Script(fault)),
         }
-        let place = kernel.history().len();
+        let number = kernel.history().next_number();
         match answer_line(alloc, kernel, writer, line.as_slice(), done + 1, &mut desk) {
             Ok(kind) => summary = summary.with(kind),
             Err(fault) => return Err(RecordedFault::Script(fault)),
         }
-        match keeper.keep(alloc, kernel, place) {
+        match keeper.keep(alloc, kernel, number) {
             Ok(()) => {}
             Err(fault) => return Err(fault),
         }

@@ -61,8 +61,8 @@ struct Name<L: Ledger> {
     ghost within: { IsBetween L.parts number },
 }
 
-/// A kernel, and how many records its history has. The history is a run of the machine that leads to its state, and has
-/// no records but those of the sessions' callers.
+/// A kernel, and how many records its history has. The history is a run of the machine that leads to its state, has
+/// no records but those of the sessions' callers, and none was taken out.
 #[derive(Drop)]
 pub struct Book<K: Kernel + Drop, L: Ledger> {
     alloc: Global,
@@ -70,6 +70,7 @@ pub struct Book<K: Kernel + Drop, L: Ledger> {
     count: Count<L>,
     made: ledger::Book<L>,
     ghost run: { run (K.bounds kernel) opening (K.past kernel) ≡ Some (K.state kernel) },
+    ghost whole: { K.taken kernel ≡ [] },
     ghost counted: { length (K.past kernel) ≡ made.total },
     ghost within: { All (λ r. IsBetween count.number r.caller.0) (K.past kernel) },
 }

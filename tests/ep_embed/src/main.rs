@@ -3,10 +3,12 @@
 
 mod clock;
 mod driver;
+mod pieces;
 mod room;
 mod timers;
 
 use crate::clock::advance;
+use crate::pieces::print_piece;
 use crate::room::print_room;
 use crate::timers::let_end;
 use ep_base::{
@@ -117,7 +119,8 @@ fn act_out<K: Kernel>(rt: &HostRuntime, kernel: &mut K) -> io::Result<()> {
 fn act_all<K: Kernel>(rt: &HostRuntime, kernel: &mut K) -> io::Result<()> {
     print_room(rt, kernel)?;
     act_out(rt, kernel)?;
-    let_end(rt, kernel)
+    let_end(rt, kernel)?;
+    print_piece(rt, kernel)
 }
 
 /// The same on a kernel that it owns, as one of any kind, if there was memory to make it.

@@ -19,6 +19,8 @@ mod memory;
 #[cfg(test)]
 mod moments;
 #[cfg(test)]
+mod pieces;
+#[cfg(test)]
 mod pools;
 #[cfg(test)]
 mod program;

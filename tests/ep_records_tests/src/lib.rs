@@ -5,3 +5,5 @@
 mod kinds;
 #[cfg(test)]
 mod rooms;
+#[cfg(test)]
+mod swaps;

@@ -4,7 +4,7 @@ ghost use Rattle.ep_machine.specs.State.{opening};
 
 use ep_base::{Answer, CallerId, Errno, Event, Limits, Moment, Record};
 use ep_plain::Kernel;
-use ep_records::History;
+use ep_records::{History, TooManyEvents};
 use std::alloc::AllocError;
 use std::io::{self, ErrorKind, Read, Write};
 
@@ -19,6 +19,8 @@ impl Kernel for NoMemory {
     ghost state = { λ _. opening };
 
     ghost past = { λ _. [] };
+
+    ghost taken = { λ _. [] };
 
     ghost bounds = { λ kernel. kernel.limits };
 
@@ -36,6 +38,10 @@ impl Kernel for NoMemory {
 
     fn history(&self) -> &History {
         &self.history
+    }
+
+    fn swap_history(&mut self, other: &mut History) -> Result<(), TooManyEvents> {
+        self.history.swap(other)
     }
 
     fn limits(&self) -> &Limits {

@@ -1,7 +1,7 @@
 //! Asks a kernel line by line, and what was refused for want of memory once more.
 
 use crate::fault::Fault;
-use crate::seen::Seen;
+use crate::seen::{Seen, records_of};
 use crate::spared::is_spared;
 use ep_base::{Answer, CallerId, Event, Record};
 use ep_plain::Kernel;
@@ -131,7 +131,7 @@ impl Asker {
         if !is_line(self.alloc, self.version, answer, wanted)? {
             return Err(Fault::Answer(self.place));
         }
-        let records = kernel.history().len();
+        let records = records_of(kernel);
         if before.records.checked_add(1) != Some(records) {
             return Err(Fault::Record(self.place));
         }

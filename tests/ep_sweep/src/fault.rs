@@ -36,6 +36,9 @@ pub(crate) enum Fault {
     /// Room for more records than any memory has.
     #[error("there is room for 2^64 - 1 records, or something changed")]
     Room,
+    /// Records could not be taken out, or something else changed with them.
+    #[error("records cannot be taken out, or something changed")]
+    Taken,
     /// The history is not that of the lines and their answers, or no run of the machine.
     #[error("the history is another one")]
     History,

@@ -6,7 +6,7 @@
 //! - `KERNEL kept NAME`: the same by `step_kept`
 //! - `KERNEL reserved NAME`: the same, with room for each record; then ENOMEM answers no event that needs nothing else,
 //!   and none that is refused
-//! - `KERNEL room`: `reserve` of too much, and of five records for five events
+//! - `KERNEL room`: `reserve` of too much, and of five records for five events behind records that are taken out
 //! - `KERNEL sessions`: two sessions in one thread
 //! - `KERNEL threads`: two sessions with a thread each
 //! - `each NAME`: all of these on both kernels

@@ -1,9 +1,10 @@
-//! Room for records.
+//! Room for records, and records that are taken out.
 
 use crate::asker::{Asker, Counts, Way};
 use crate::fault::Fault;
 use crate::seen::Seen;
 use ep_plain::Kernel;
+use ep_records::History;
 use std::alloc::{AllocError, Global};
 
 /// An eventfd that an instance watches.
@@ -44,18 +45,31 @@ fn ask_too_much<K: Kernel>(kernel: &mut K) -> Result<(), Fault> {
     Ok(())
 }
 
-/// Asks for too much room, then for the room of five records, with which five events are never answered ENOMEM.
+/// Takes the records out, by which nothing else changes that a caller can see.
+fn take_out<K: Kernel>(alloc: Global, kernel: &mut K) -> Result<History, Fault> {
+    let before = Seen::of(kernel);
+    let mut taken = History::new(alloc);
+    if kernel.swap_history(&mut taken).is_err() || Seen::of(kernel) != before {
+        return Err(Fault::Taken);
+    }
+    Ok(taken)
+}
+
+/// Asks for too much room, then takes the records out and asks for the room of five, with which five events are never
+/// answered ENOMEM.
 fn run<K: Kernel>(asker: &mut Asker, kernel: &mut K) -> Result<(), Fault> {
     ask_too_much(kernel)?;
     asker.ask_all(kernel, OPENS, OPENED)?;
     ask_too_much(kernel)?;
+    let taken = take_out(asker.alloc, kernel)?;
     asker.reserve(kernel, FIVE)?;
     let refused = asker.counts.refused;
     asker.ask_all(kernel, CALLS, CALLED)?;
     if asker.counts.refused != refused {
         return Err(Fault::Spared(asker.place()));
     }
-    if kernel.history().len() != asker.counts.steps {
+    let kept = kernel.history().len();
+    if (taken.len(), kept) != (asker.counts.steps.saturating_sub(FIVE), FIVE) {
         return Err(Fault::History);
     }
     Ok(())

@@ -9,6 +9,7 @@ const CALLERS: u32 = 32;
 /// What a caller can see of a kernel without a call that leaves a record. The callers are bits, by their numbers.
 #[derive(Clone, Copy, PartialEq, Eq)]
 pub(crate) struct Seen {
+    /// How many records there have been, those among them that were taken out.
     pub(crate) records: usize,
     now: Moment,
     parked: u64,
@@ -16,6 +17,11 @@ pub(crate) struct Seen {
     first_marked: Option<CallerId>,
     next_moment: Option<Moment>,
     limits: Limits,
+}
+
+/// How many records a kernel has had.
+pub(crate) fn records_of<K: Kernel>(kernel: &K) -> usize {
+    (kernel.history().next_number().0 as usize).saturating_sub(1)
 }
 
 impl Seen {
@@ -28,7 +34,7 @@ impl Seen {
             marked |= u64::from(kernel.is_marked(CallerId(number))) << number;
         }
         Seen {
-            records: kernel.history().len(),
+            records: records_of(kernel),
             now: kernel.now(),
             parked,
             marked,

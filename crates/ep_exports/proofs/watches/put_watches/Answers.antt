@@ -9,7 +9,7 @@ pub loop-at-preserved : goal.loop-at-preserved
 loop-at-preserved c =
     let told = c.index-told-at.result in
     let i = c.loop-at.at in let given : List Watch = c.args.told.now in let old : List FlatWatch = c.args.room.now in
-    let past = c.args.past.now.items in (
+    let past = c.args.past.now in (
       omega (arith, c.loop-at-test.true),
       omega (arith, c.if-at-room.true, c.loop-at.auto, c.loop-at.invariant),
       refl,

@@ -1,10 +1,11 @@
 use Rattle.std.proofs.Common.{[], ap, append-nil, arith, length, refl, ◌∙◌, ◌+◌, sym}
 use Rattle.ep_script.specs.Unread.{unread}
 use Rattle.ep_script.proofs.Faults.{answer_cut, answer_fault, come_fault, come_memory, come_read, come_unread, come_unwritten, cut_at_once, end_fault, lines_fault, memory_at_once, never_read, no_part, only_written, out_fault, read_cut}
-use Rattle.ep_script.proofs.HistoryLemmas.{history_fault, never_script, part_of_all, part_of_line, part_unanswered, script_same, writes_more, writes_nothing}
+use Rattle.ep_script.proofs.HistoryLemmas.{at_next, history_fault, never_script, part_of_all, part_of_line, part_unanswered, script_same, writes_more, writes_nothing}
 use Rattle.ep_script.proofs.Pieces.{holds_line}
 use Rattle.ep_script.proofs.RunLemmas.{ran_more, ran_nothing, ran_passed, ran_whole, ran_written}
 use Rattle.ep_script.proofs.TallyLemmas.{few_bad, few_records, gains_more, one_lines}
+use Rattle.ep_records.proofs.WholeLemmas.{taken_few}
 use Rattle.ep_script.proofs.run.run_keeping.Goals as goal
 
 -- ---- nothing is read yet
@@ -34,6 +35,7 @@ loop-done-init g c = record {
   history_once = refl;
   writes = writes_nothing _ _;
   limits = refl;
+  taken = refl;
 }
 
 -- ---- the next line
@@ -86,6 +88,10 @@ returns-in-Err-answer_line-clause-part g c = part_unanswered _ _ _ _ _ _ _ _ _ _
 
 -- ---- its record
 
+pub keep-requires : goal.keep-requires
+keep-requires g c =
+    omega (arith, ap length c.answer_line.ensures.taken, ap length c.history.ensures.taken, taken_few c.history.result.now, c.next_number-number.ensures)
+
 pub returns-in-Err-keep-clause-fault : goal.returns-in-Err-keep-clause-fault
 returns-in-Err-keep-clause-fault g c =
     let told = rw c.as_slice.ensures.value at c.in-Ok-answer_line.ensures.ok in
@@ -104,7 +110,7 @@ returns-in-Err-keep-clause-memory g c = λ q. never_script _ c.in-Err-keep.fault
 pub returns-in-Err-keep-clause-part : goal.returns-in-Err-keep-clause-part
 returns-in-Err-keep-clause-part g c =
     let told = rw c.as_slice.ensures.value at c.in-Ok-answer_line.ensures.ok in
-    part_of_line _ _ _ _ _ _ told.1.outcome _ c.in-Err-keep.ensures.part.0 c.loop-done.invariant.writes told.1.grows (c.len-place.ensures.count ∙ ap length c.history.ensures.past) c.in-Err-keep.ensures.part.1
+    part_of_line _ _ _ _ _ _ told.1.outcome _ c.in-Err-keep.ensures.part.0 c.loop-done.invariant.writes told.1.grows (at_next _ _ _ c.next_number-number.ensures (ap length c.history.ensures.past)) c.in-Err-keep.ensures.part.1
 
 pub loop-done-preserved : goal.loop-done-preserved
 loop-done-preserved g c =
@@ -125,8 +131,9 @@ loop-done-preserved g c =
       reader_once = c.in-Ok-true.ensures.reader_once c.loop-done.invariant.reader_flag ∙ c.loop-done.invariant.reader_once;
       writer_once = c.in-Ok-answer_line.ensures.once (c.in-Ok-true.ensures.writer_flag ∙ c.loop-done.invariant.writer_flag) ∙ c.in-Ok-true.ensures.writer_once c.loop-done.invariant.writer_flag ∙ c.loop-done.invariant.writer_once;
       history_once = c.in-Ok-keep.ensures.once c.loop-done.invariant.history_flag ∙ c.loop-done.invariant.history_once;
-      writes = writes_more _ _ _ _ _ _ told.1.outcome _ c.loop-done.invariant.writes told.1.grows (c.len-place.ensures.count ∙ ap length c.history.ensures.past) c.in-Ok-keep.ensures.ok;
+      writes = writes_more _ _ _ _ _ _ told.1.outcome _ c.loop-done.invariant.writes told.1.grows (at_next _ _ _ c.next_number-number.ensures (ap length c.history.ensures.past)) c.in-Ok-keep.ensures.ok;
       limits = c.answer_line.ensures.limits ∙ c.loop-done.invariant.limits;
+      taken = c.answer_line.ensures.taken ∙ c.loop-done.invariant.taken;
     }
 
 -- ---- behind the last line that may be

@@ -23,4 +23,5 @@ invariant-loop-done g l = record {
   history_once : g.T.Keeper.asked_after l.keeper ≡ g.T.Keeper.asked_after l.fn.keeper;
   writes : Writes (g.T.Keeper.contents l.fn.keeper) (g.T.Keeper.contents l.keeper) (g.K.Kernel.past l.fn.kernel) (g.K.Kernel.past l.kernel);
   limits : g.K.Kernel.bounds l.kernel ≡ g.K.Kernel.bounds l.fn.kernel;
+  taken : g.K.Kernel.taken l.kernel ≡ g.K.Kernel.taken l.fn.kernel;
 }

@@ -29,6 +29,8 @@ use Rattle.ep_kernel.proofs.RunLemmas.{added_on, adds_on, does_fairly, few_on, f
 use Rattle.ep_alarms.proofs.ChangesLemmas.{set_same}
 use Rattle.ep_ready.specs.ReadyLists.{Lists}
 use Rattle.ep_kernel.proofs.ready.ReadyKernel.try_step.Goals as goal
+use Rattle.ep_records.specs.Past.{Past, whole}
+use Rattle.ep_records.proofs.WholeLemmas.{whole_added}
 use Rattle.ep_kernel.proofs.ready.ReadyKernel.try_step.Goals.{After-attend-attended}
 
 -- want of memory changes nothing
@@ -36,10 +38,10 @@ pub invariant_of-self-in_err-outcome : goal.invariant_of-self-in_err-outcome
 invariant_of-self-in_err-outcome c =
     let k = c.self.inside in
     let same = c.in_err-outcome.ensures.err in
-    let runs = runs_same k.history.items c.act.new.parts k.beside.lists c.act.new.beside.lists same.lists (subst (λ (p : Parts). Runs k.history.items p k.beside.lists) (sym same.parts) c.self.invariant.runs) in
+    let runs = runs_same (whole k.history) c.act.new.parts k.beside.lists c.act.new.beside.lists same.lists (subst (λ (p : Parts). Runs (whole k.history) p k.beside.lists) (sym same.parts) c.self.invariant.runs) in
     let set = set_same k.parts.tables k.parts.clock k.alarms c.make_room-has_room.new.self c.make_room-has_room.ensures.kept c.self.invariant.set in
     record {
-      runs = subst (λ (rs : List Record). Runs rs c.act.new.parts c.act.new.beside.lists) (sym c.reserve.ensures.items) runs;
+      runs = subst (λ (rs : List Record). Runs rs c.act.new.parts c.act.new.beside.lists) (sym (ap whole c.reserve.ensures.stays)) runs;
       set = subst (λ (p : Parts). AreSet p.tables p.clock c.make_room-has_room.new.self) (sym same.parts) set;
       hopes = hopes_again c.args.event k.parts c.act.new.parts c.act.new.beside.asked.hopes same.parts c.act.ensures.goes.hopes;
       room = c.act.ensures.goes.room;
@@ -60,20 +62,20 @@ returns-in_err-outcome-clause-last c room =
     let caller = c.args.caller.0 in
     on_err c.from_residual-in_err-outcome.result
     (subst (λ (b : ReadyBook). first (refusals b.book.limits (next_event (state_of b.book)) caller c.args.event) ≡ None) c.self.view_is
-    (event_last k.history.items k.parts c.self.invariant.runs.keeps caller c.args.event c.in_err-outcome.ensures.last))
+    (event_last (whole k.history) k.parts c.self.invariant.runs.keeps caller c.args.event c.in_err-outcome.ensures.last))
 
 -- where a second record is asked for, there is a copy, or none is needed
 pub put_record-answer-requires-clause-inline : goal.put_record-answer-requires-clause-inline
 put_record-answer-requires-clause-inline c asked none =
     let k = c.self.inside in
     let o = c.in_ok-outcome.outcome in
-    let n : c.len.result + 1 ≡ length k.history.items + 1 = ap (λ (m : ℕ). m + 1) (c.len.ensures.count ∙ ap (λ (rs : List Record). length rs) c.reserve.ensures.items) in
-    let does = does_fairly k.history.items k.parts c.act.new.parts k.beside.lists c.self.invariant.runs (c.len.result + 1) c.args.caller.0 c.args.event o n c.in_ok-outcome.ensures.ok in
+    let n : c.next_number-step.result ≡ length (whole k.history) + 1 = c.next_number-step.ensures ∙ ap (λ (h : Past). length (whole h) + 1) c.reserve.ensures.stays in
+    let does = does_fairly (whole k.history) k.parts c.act.new.parts k.beside.lists c.self.invariant.runs c.next_number-step.result c.args.caller.0 c.args.event o n c.in_ok-outcome.ensures.ok in
     inline_event k.parts.tables.limits (next_event c.self.invariant.runs.keeps.state) c.args.caller.0 o c.args.kept asked none c.args.event c.act.new.parts does.goes c.in_ok-outcome.ensures.kept
 
 -- Where marks are set.
-at_step : (c : After-attend-attended) → c.len.result + 1 ≡ length c.self.inside.history.items + 1
-at_step c = ap (λ (m : ℕ). m + 1) (c.len.ensures.count ∙ ap (λ (rs : List Record). length rs) c.reserve.ensures.items)
+at_step : (c : After-attend-attended) → c.next_number-step.result ≡ length (whole c.self.inside.history) + 1
+at_step c = c.next_number-step.ensures ∙ ap (λ (h : Past). length (whole h) + 1) c.reserve.ensures.stays
 
 -- what is attended
 attended : (c : After-attend-attended) → c.attend-attended.result ≡ attends (left_at c.spread.new.parts.parked c.args.caller.0 (resumed_at c.self.inside.parts.parked c.args.caller.0 c.args.event)) c.in_ok-outcome.outcome.raising
@@ -83,21 +85,21 @@ attended c =
 
 -- what the event does
 done : (c : After-attend-attended) → DoesAt (next_event c.self.invariant.runs.keeps.state) c.args.caller.0 c.args.event c.in_ok-outcome.outcome c.self.inside.parts c.act.new.parts
-done c = does_fairly c.self.inside.history.items c.self.inside.parts c.act.new.parts c.self.inside.beside.lists c.self.invariant.runs (c.len.result + 1) c.args.caller.0 c.args.event c.in_ok-outcome.outcome (at_step c) c.in_ok-outcome.ensures.ok
+done c = does_fairly (whole c.self.inside.history) c.self.inside.parts c.act.new.parts c.self.inside.beside.lists c.self.invariant.runs c.next_number-step.result c.args.caller.0 c.args.event c.in_ok-outcome.outcome (at_step c) c.in_ok-outcome.ensures.ok
 
 -- the hopes fit
 hoped : (c : After-attend-attended) → HopesFor c.spread.new.parts c.spread.new.beside.asked.hopes
 hoped c =
     let k = c.self.inside in
     let runs = c.self.invariant.runs in
-    hopes_left c.know_laws.ensures.spread k.history.items k.parts c.act.new.parts c.spread.new.parts runs.keeps c.know_laws.ensures.tables c.know_laws.ensures.interest
-    c.args.caller c.args.event c.in_ok-outcome.outcome (c.len.result + 1) (at_step c) (done c) c.in_ok-outcome.ensures.lists.turns.ids c.in_ok-outcome.ensures.ok.keys c.spread.ensures.spreads.spreads c.act.new.beside.asked.hopes c.spread.new.beside.asked.hopes c.act.ensures.goes.hopes c.spread.ensures.spreads.beside.hopes
+    hopes_left c.know_laws.ensures.spread (whole k.history) k.parts c.act.new.parts c.spread.new.parts runs.keeps c.know_laws.ensures.tables c.know_laws.ensures.interest
+    c.args.caller c.args.event c.in_ok-outcome.outcome c.next_number-step.result (at_step c) (done c) c.in_ok-outcome.ensures.lists.turns.ids c.in_ok-outcome.ensures.ok.keys c.spread.ensures.spreads.spreads c.act.new.beside.asked.hopes c.spread.new.beside.asked.hopes c.act.ensures.goes.hopes c.spread.ensures.spreads.beside.hopes
 
 -- what it lost
 lost : (c : After-attend-attended) → NotesLost c.self.inside.parts c.spread.new.parts [] c.spread.new.beside.choice.lost.reached
 lost c =
     let k = c.self.inside in
-    notes_event k.history.items k.parts c.act.new.parts c.spread.new.parts c.self.invariant.runs.keeps c.args.caller c.args.event c.in_ok-outcome.outcome (c.len.result + 1) (at_step c) (done c) c.in_ok-outcome.ensures.ok.keys c.know_laws.ensures.coherent c.spread.ensures.spreads.spreads
+    notes_event (whole k.history) k.parts c.act.new.parts c.spread.new.parts c.self.invariant.runs.keeps c.args.caller c.args.event c.in_ok-outcome.outcome c.next_number-step.result (at_step c) (done c) c.in_ok-outcome.ensures.ok.keys c.know_laws.ensures.coherent c.spread.ensures.spreads.spreads
     c.act.new.beside.choice.lost.reached c.spread.new.beside.choice.lost.reached (subst (λ (ks : List ℕ). NotesLost k.parts c.act.new.parts ks c.act.new.beside.choice.lost.reached) c.self.invariant.unlost c.act.ensures.goes.lost) c.spread.ensures.lost
 
 pub rest-requires-clause-hopes : goal.rest-requires-clause-hopes
@@ -109,7 +111,7 @@ rest-requires-clause-fits c =
     let now = (goal.at.rest-requires-clause-fits c).After-attend-attended in
     let room = c.spread.ensures.room in
     record {
-      instances = have_instances k.history.items k.parts c.act.new.parts c.spread.new.parts c.self.invariant.runs.keeps c.args.caller c.args.event c.in_ok-outcome.outcome (c.len.result + 1) (at_step now) (done now) c.in_ok-outcome.ensures.ok.keys c.know_laws.ensures.coherent c.spread.ensures.spreads.spreads;
+      instances = have_instances (whole k.history) k.parts c.act.new.parts c.spread.new.parts c.self.invariant.runs.keeps c.args.caller c.args.event c.in_ok-outcome.outcome c.next_number-step.result (at_step now) (done now) c.in_ok-outcome.ensures.ok.keys c.know_laws.ensures.coherent c.spread.ensures.spreads.spreads;
       reached = room.reached;
       choice = room.choice;
       lost = room.lost;
@@ -117,15 +119,15 @@ rest-requires-clause-fits c =
 
 pub rest-requires-clause-reached : goal.rest-requires-clause-reached
 rest-requires-clause-reached c =
-    reached_left (c.len.result + 1) c.in_ok-outcome.outcome.raising c.act.new.parts c.spread.new.parts c.spread.ensures.spreads.spreads c.spread.new.beside.reached.reached c.spread.ensures.spreads.reached
+    reached_left c.next_number-step.result c.in_ok-outcome.outcome.raising c.act.new.parts c.spread.new.parts c.spread.ensures.spreads.spreads c.spread.new.beside.reached.reached c.spread.ensures.spreads.reached
 
 pub rest-requires-clause-looked : goal.rest-requires-clause-looked
 rest-requires-clause-looked c =
     let k = c.self.inside in
     let now = (goal.at.rest-requires-clause-looked c).After-attend-attended in
     let ks = c.spread.new.beside.choice.lost.reached in
-    subst (AreLookedAt (c.len.result + 1) c.spread.new.parts ks) (sym (attended now))
-    (looked_at k.history.items k.parts c.act.new.parts c.spread.new.parts c.self.invariant.runs.keeps c.args.caller c.args.event c.in_ok-outcome.outcome (c.len.result + 1) (at_step now) (done now) c.in_ok-outcome.ensures.ok.keys c.know_laws.ensures.coherent c.spread.ensures.spreads.spreads
+    subst (AreLookedAt c.next_number-step.result c.spread.new.parts ks) (sym (attended now))
+    (looked_at (whole k.history) k.parts c.act.new.parts c.spread.new.parts c.self.invariant.runs.keeps c.args.caller c.args.event c.in_ok-outcome.outcome c.next_number-step.result (at_step now) (done now) c.in_ok-outcome.ensures.ok.keys c.know_laws.ensures.coherent c.spread.ensures.spreads.spreads
     c.know_laws.ensures.looked ks (lost now))
 
 pub act-requires : goal.act-requires
@@ -137,27 +139,28 @@ pub spread-requires-clause-fits : goal.spread-requires-clause-fits
 spread-requires-clause-fits c = record { places = record { lists = c.in_ok-outcome.ensures.lists.turns.places; hopes = c.act.ensures.goes.hopes.places }; room = c.act.ensures.goes.room }
 
 -- the number of the event
-number : (c : goal.After-put_record-answer) → c.len.result + 1 ≡ length c.self.inside.history.items + 1
-number c = ap (λ (m : ℕ). m + 1) (c.len.ensures.count ∙ ap (λ (rs : List Record). length rs) c.reserve.ensures.items)
+number : (c : goal.After-put_record-answer) → c.next_number-step.result ≡ length (whole c.self.inside.history) + 1
+number c = c.next_number-step.ensures ∙ ap (λ (h : Past). length (whole h) + 1) c.reserve.ensures.stays
 
 -- the history has its record
-records : (c : goal.After-put_record-answer) → c.put_record-answer.new.history.items ≡ c.self.inside.history.items ++ record_of c.args.caller c.args.event c.in_ok-outcome.outcome ∷ []
+records : (c : goal.After-put_record-answer) → whole c.put_record-answer.new.history ≡ whole c.self.inside.history ++ record_of c.args.caller c.args.event c.in_ok-outcome.outcome ∷ []
 records c =
-    c.put_record-answer.ensures.items ∙ ap (λ (rs : List Record). rs ++ record_of c.args.caller c.args.event c.in_ok-outcome.outcome ∷ []) c.reserve.ensures.items
+    whole_added c.reserve.new.self c.put_record-answer.new.history (record_of c.args.caller c.args.event c.in_ok-outcome.outcome ∷ []) c.put_record-answer.ensures.taken c.put_record-answer.ensures.items
+    ∙ ap (λ (h : Past). whole h ++ record_of c.args.caller c.args.event c.in_ok-outcome.outcome ∷ []) c.reserve.ensures.stays
 
 -- the rest of the event, with what is attended
-rested : (c : goal.After-put_record-answer) → RestsBy (gets_mark_key (c.len.result + 1) c.spread.new.parts (attends (left_at c.spread.new.parts.parked c.args.caller.0 (resumed_at c.self.inside.parts.parked c.args.caller.0 c.args.event)) c.in_ok-outcome.outcome.raising)) c.spread.new.parts c.rest.new.parts
+rested : (c : goal.After-put_record-answer) → RestsBy (gets_mark_key c.next_number-step.result c.spread.new.parts (attends (left_at c.spread.new.parts.parked c.args.caller.0 (resumed_at c.self.inside.parts.parked c.args.caller.0 c.args.event)) c.in_ok-outcome.outcome.raising)) c.spread.new.parts c.rest.new.parts
 rested c =
-    subst (λ (o : Option DescId). RestsBy (gets_mark_key (c.len.result + 1) c.spread.new.parts o) c.spread.new.parts c.rest.new.parts)
+    subst (λ (o : Option DescId). RestsBy (gets_mark_key c.next_number-step.result c.spread.new.parts o) c.spread.new.parts c.rest.new.parts)
     (c.attend-attended.ensures ∙ ap (λ (o : Option DescId). attends o c.in_ok-outcome.outcome.raising) (c.left.ensures ∙ ap (left_at c.spread.new.parts.parked c.args.caller.0) c.resumed_at-resumed.ensures)) c.rest.ensures.rests
 
 pub invariant_of-self-2 : goal.invariant_of-self-2
 invariant_of-self-2 c =
     let k = c.self.inside in
     let runs = subst (λ (rs : List Record). Runs rs c.rest.new.parts c.rest.new.beside.lists) (sym (records c))
-    (subst (Runs (k.history.items ++ record_of c.args.caller c.args.event c.in_ok-outcome.outcome ∷ []) c.rest.new.parts) (sym c.rest.ensures.lists)
-    (runs_on c.know_laws.ensures.turns k.history.items k.parts c.act.new.parts c.rest.new.parts k.beside.lists c.act.new.beside.lists c.spread.new.beside.lists c.self.invariant.runs c.know_laws.ensures.coherent c.know_laws.ensures.tables c.know_laws.ensures.interest c.know_laws.ensures.lists c.known.ensures
-    c.args.caller c.args.event c.in_ok-outcome.outcome (c.len.result + 1) (number c) c.in_ok-outcome.ensures.ok c.in_ok-outcome.ensures.lists.turns c.spread.new.parts c.spread.ensures.spreads.spreads c.spread.ensures.spreads.beside.lists (rested c))) in
+    (subst (Runs ((whole k.history) ++ record_of c.args.caller c.args.event c.in_ok-outcome.outcome ∷ []) c.rest.new.parts) (sym c.rest.ensures.lists)
+    (runs_on c.know_laws.ensures.turns (whole k.history) k.parts c.act.new.parts c.rest.new.parts k.beside.lists c.act.new.beside.lists c.spread.new.beside.lists c.self.invariant.runs c.know_laws.ensures.coherent c.know_laws.ensures.tables c.know_laws.ensures.interest c.know_laws.ensures.lists c.known.ensures
+    c.args.caller c.args.event c.in_ok-outcome.outcome c.next_number-step.result (number c) c.in_ok-outcome.ensures.ok c.in_ok-outcome.ensures.lists.turns c.spread.new.parts c.spread.ensures.spreads.spreads c.spread.ensures.spreads.beside.lists (rested c))) in
     let fits = c.rest.ensures.fits in
     record {
       runs = runs;
@@ -171,31 +174,31 @@ pub returns-clause-ok : goal.returns-clause-ok
 returns-clause-ok c =
     let k = c.self.inside in
     let outcome = c.in_ok-outcome.outcome in
-    let new : Book = record { limits = c.rest.new.parts.tables.limits; past = c.put_record-answer.new.history.items; capacity = length c.put_record-answer.new.history.items + c.put_record-answer.new.history.room } in
+    let new : Book = record { limits = c.rest.new.parts.tables.limits; past = whole c.put_record-answer.new.history; taken = c.put_record-answer.new.history.taken; capacity = length (whole c.put_record-answer.new.history) + c.put_record-answer.new.history.room } in
     let adds =
-    adds_on c.know_laws.ensures.turns k.history.items k.parts c.act.new.parts c.rest.new.parts k.beside.lists c.act.new.beside.lists c.spread.new.beside.lists c.self.invariant.runs c.know_laws.ensures.coherent c.know_laws.ensures.tables c.know_laws.ensures.interest c.know_laws.ensures.lists c.known.ensures
-    c.args.caller c.args.event outcome (c.len.result + 1) (number c) c.in_ok-outcome.ensures.ok c.in_ok-outcome.ensures.lists.turns c.spread.new.parts c.spread.ensures.spreads.spreads c.spread.ensures.spreads.beside.lists (rested c) in
+    adds_on c.know_laws.ensures.turns (whole k.history) k.parts c.act.new.parts c.rest.new.parts k.beside.lists c.act.new.beside.lists c.spread.new.beside.lists c.self.invariant.runs c.know_laws.ensures.coherent c.know_laws.ensures.tables c.know_laws.ensures.interest c.know_laws.ensures.lists c.known.ensures
+    c.args.caller c.args.event outcome c.next_number-step.result (number c) c.in_ok-outcome.ensures.ok c.in_ok-outcome.ensures.lists.turns c.spread.new.parts c.spread.ensures.spreads.spreads c.spread.ensures.spreads.beside.lists (rested c) in
     let old = c.args.self.now.book in
     subst (λ (a : Answer). Adds old.limits c.args.caller c.args.event a (state_of old) (state_of new) old.past new.past) (sym c.put_record-answer.ensures.answer)
     (subst (λ (b : ReadyBook). Adds b.book.limits c.args.caller c.args.event outcome.answer (state_of b.book) (state_of new) b.book.past new.past) c.self.view_is
-    (subst (λ (rs : List Record). Adds k.parts.tables.limits c.args.caller c.args.event outcome.answer (state_of (book_of k).book) (state_of (record new { past = rs })) k.history.items rs) (sym (records c)) adds))
+    (subst (λ (rs : List Record). Adds k.parts.tables.limits c.args.caller c.args.event outcome.answer (state_of (book_of k).book) (state_of (record new { past = rs })) (whole k.history) rs) (sym (records c)) adds))
 
 pub returns-clause-lists : goal.returns-clause-lists
 returns-clause-lists c =
     let k = c.self.inside in
     let outcome = c.in_ok-outcome.outcome in
-    let book : Book = record { limits = c.rest.new.parts.tables.limits; past = c.put_record-answer.new.history.items; capacity = length c.put_record-answer.new.history.items + c.put_record-answer.new.history.room } in
+    let book : Book = record { limits = c.rest.new.parts.tables.limits; past = whole c.put_record-answer.new.history; taken = c.put_record-answer.new.history.taken; capacity = length (whole c.put_record-answer.new.history) + c.put_record-answer.new.history.room } in
     let with_lists : Lists → ReadyBook = λ m. record { book = book; lists = lists_of c.rest.new.parts m } in
     let new = with_lists c.spread.new.beside.lists in
     let first =
-    first_on c.know_laws.ensures.turns k.history.items k.parts c.act.new.parts c.rest.new.parts k.beside.lists c.act.new.beside.lists c.spread.new.beside.lists c.self.invariant.runs c.know_laws.ensures.coherent c.know_laws.ensures.tables c.know_laws.ensures.interest c.know_laws.ensures.lists c.known.ensures
-    c.args.caller c.args.event outcome (c.len.result + 1) (number c) c.in_ok-outcome.ensures.ok c.in_ok-outcome.ensures.lists.turns c.spread.new.parts c.spread.ensures.spreads.spreads c.spread.ensures.spreads.beside.lists (rested c) c.in_ok-outcome.ensures.lists.order in
+    first_on c.know_laws.ensures.turns (whole k.history) k.parts c.act.new.parts c.rest.new.parts k.beside.lists c.act.new.beside.lists c.spread.new.beside.lists c.self.invariant.runs c.know_laws.ensures.coherent c.know_laws.ensures.tables c.know_laws.ensures.interest c.know_laws.ensures.lists c.known.ensures
+    c.args.caller c.args.event outcome c.next_number-step.result (number c) c.in_ok-outcome.ensures.ok c.in_ok-outcome.ensures.lists.turns c.spread.new.parts c.spread.ensures.spreads.spreads c.spread.ensures.spreads.beside.lists (rested c) c.in_ok-outcome.ensures.lists.order in
     let few =
-    few_on c.know_laws.ensures.turns k.history.items k.parts c.act.new.parts c.rest.new.parts k.beside.lists c.act.new.beside.lists c.spread.new.beside.lists c.self.invariant.runs c.know_laws.ensures.coherent c.know_laws.ensures.tables c.know_laws.ensures.interest c.know_laws.ensures.lists c.known.ensures
-    c.args.caller c.args.event outcome (c.len.result + 1) (number c) c.in_ok-outcome.ensures.ok c.in_ok-outcome.ensures.lists.turns c.spread.new.parts c.spread.ensures.spreads.spreads c.spread.ensures.spreads.beside.lists (rested c) c.in_ok-outcome.ensures.lists.order in
+    few_on c.know_laws.ensures.turns (whole k.history) k.parts c.act.new.parts c.rest.new.parts k.beside.lists c.act.new.beside.lists c.spread.new.beside.lists c.self.invariant.runs c.know_laws.ensures.coherent c.know_laws.ensures.tables c.know_laws.ensures.interest c.know_laws.ensures.lists c.known.ensures
+    c.args.caller c.args.event outcome c.next_number-step.result (number c) c.in_ok-outcome.ensures.ok c.in_ok-outcome.ensures.lists.turns c.spread.new.parts c.spread.ensures.spreads.spreads c.spread.ensures.spreads.beside.lists (rested c) c.in_ok-outcome.ensures.lists.order in
     let added =
-    added_on c.know_laws.ensures.turns k.history.items k.parts c.act.new.parts c.rest.new.parts k.beside.lists c.act.new.beside.lists c.spread.new.beside.lists c.self.invariant.runs c.know_laws.ensures.coherent c.know_laws.ensures.tables c.know_laws.ensures.interest c.know_laws.ensures.lists c.known.ensures
-    c.args.caller c.args.event outcome (c.len.result + 1) (number c) c.in_ok-outcome.ensures.ok c.in_ok-outcome.ensures.lists.turns c.spread.new.parts c.spread.ensures.spreads.spreads c.spread.ensures.spreads.beside.lists (rested c) in
+    added_on c.know_laws.ensures.turns (whole k.history) k.parts c.act.new.parts c.rest.new.parts k.beside.lists c.act.new.beside.lists c.spread.new.beside.lists c.self.invariant.runs c.know_laws.ensures.coherent c.know_laws.ensures.tables c.know_laws.ensures.interest c.know_laws.ensures.lists c.known.ensures
+    c.args.caller c.args.event outcome c.next_number-step.result (number c) c.in_ok-outcome.ensures.ok c.in_ok-outcome.ensures.lists.turns c.spread.new.parts c.spread.ensures.spreads.spreads c.spread.ensures.spreads.beside.lists (rested c) in
     subst (λ (a : Answer). TurnsLists c.args.caller c.args.event a c.args.self.now (with_lists c.rest.new.beside.lists)) (sym c.put_record-answer.ensures.answer)
     (subst (λ (b : ReadyBook). TurnsLists c.args.caller c.args.event outcome.answer b (with_lists c.rest.new.beside.lists)) c.self.view_is
     (subst (λ (m : Lists). TurnsLists c.args.caller c.args.event outcome.answer (book_of k) (with_lists m)) (sym c.rest.ensures.lists)

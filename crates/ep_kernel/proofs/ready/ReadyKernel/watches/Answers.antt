@@ -5,6 +5,7 @@ use Rattle.ep_kernel.specs.ReadyBook.{state_of}
 use Rattle.ep_kernel.specs.Watches.{Tells, TellsNone, refused_with, told_at}
 use Rattle.ep_machine.specs.Files.{named_by}
 use Rattle.ep_machine.specs.State.{State}
+use Rattle.ep_records.specs.Past.{whole}
 use Rattle.ep_kernel.proofs.ready.ReadyKernel.watches.Goals as goal
 
 pub returns-clause-tells : goal.returns-clause-tells
@@ -17,6 +18,6 @@ returns-clause-tells c =
     subst (λ (s : State). MatchOption (refused_with s.files pid fd)
     (Tells (told_at s (named_by s.files pid fd)) (Ok c.ask-count.result) c.args.room.now c.ask-count.new.room)
     (λ e. TellsNone e (Ok c.ask-count.result) c.args.room.now c.ask-count.new.room))
-    (sym (state_is k.history.items k.parts keeps) ∙ ap state_of c.self.view_is)
+    (sym (state_is (whole k.history) k.parts keeps) ∙ ap state_of c.self.view_is)
     (tells_named k.parts c.in_ok-instance.instance c.know.ensures.coherent c.know.ensures.tables named.lives keeps.state keeps.stands
     c.ask-count.result c.args.room.now c.ask-count.new.room c.ask-count.ensures.count c.ask-count.ensures.room pid fd named)

@@ -10,6 +10,7 @@ use Rattle.ep_kernel.specs.ReadyBook.{state_of}
 use Rattle.ep_kernel.specs.Watches.{Tells, TellsNone, told_at}
 use Rattle.ep_machine.specs.State.{State}
 use Rattle.ep_machine.specs.Waits.{waiter_of}
+use Rattle.ep_records.specs.Past.{whole}
 use Rattle.ep_kernel.proofs.ready.ReadyKernel.watches_awaited.Goals as goal
 
 pub returns-in_default-clause-tells : goal.returns-in_default-clause-tells
@@ -18,7 +19,7 @@ returns-in_default-clause-tells c =
     let keeps = c.self.invariant.runs.keeps in
     subst (λ (s : State). MatchOption (waiter_of s c.args.caller.0) (TellsNone Einval (Err Einval) c.args.room.now c.args.room.now)
     (λ w. Tells (told_at s w.instance) (Err Einval) c.args.room.now c.args.room.now))
-    (sym (state_is k.history.items k.parts keeps) ∙ ap state_of c.self.view_is)
+    (sym (state_is (whole k.history) k.parts keeps) ∙ ap state_of c.self.view_is)
     (tells_unparked k.parts keeps.state keeps.stands c.args.caller.0 c.args.room.now
     (sym c.find_wait.ensures ∙ ap (option_map (parked c.args.caller.0)) c.in_default.is))
 
@@ -30,7 +31,7 @@ returns-clause-tells c =
     let found = sym c.find_wait.ensures ∙ ap (option_map (parked c.args.caller.0)) c.in-Some.is in
     subst (λ (s : State). MatchOption (waiter_of s c.args.caller.0) (TellsNone Einval (Ok c.ask-count.result) c.args.room.now c.ask-count.new.room)
     (λ w. Tells (told_at s w.instance) (Ok c.ask-count.result) c.args.room.now c.ask-count.new.room))
-    (sym (state_is k.history.items k.parts keeps) ∙ ap state_of c.self.view_is)
+    (sym (state_is (whole k.history) k.parts keeps) ∙ ap state_of c.self.view_is)
     (tells_awaited k.parts w.instance c.know.ensures.coherent c.know.ensures.tables
     (found_all (IsPlaced k.parts.tables.keys) c.args.caller.0 k.parts.parked (parked c.args.caller.0 w) found c.know.ensures.coherent.placed).instance
     keeps.state keeps.stands c.ask-count.result c.args.room.now c.ask-count.new.room c.ask-count.ensures.count c.ask-count.ensures.room c.args.caller.0 w found refl)

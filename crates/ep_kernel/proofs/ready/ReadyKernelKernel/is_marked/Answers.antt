@@ -7,6 +7,7 @@ use Rattle.ep_kernel.specs.ReadyBook.{ReadyBook, state_of}
 use Rattle.ep_calls.proofs.RegistrationLemmas.{caller_marked}
 use Rattle.ep_kernel.specs.declared.ready.ReadyKernel.TheInside.{Inside}
 use Rattle.ep_calls.proofs.KeepsLemmas.{state_is}
+use Rattle.ep_records.specs.Past.{whole}
 use Rattle.ep_kernel.proofs.ready.ReadyKernelKernel.is_marked.Goals as goal
 
 pub returns : goal.returns
@@ -18,4 +19,4 @@ returns c =
     c.is_marked.ensures
     ∙ (ap (λ (j : Inside). list_any (is_marked_caller caller) j.parts.parked) c.self-inside.view_is
     ∙ (sym (caller_marked p.tables p.interest p.parked p.clock keeps.state caller keeps.stands)
-    ∙ (ap (λ (s : State). is_marked s caller) (sym (state_is k.history.items p keeps)) ∙ ap (λ (b : ReadyBook). is_marked (state_of b) caller) c.self.view_is)))
+    ∙ (ap (λ (s : State). is_marked s caller) (sym (state_is (whole k.history) p keeps)) ∙ ap (λ (b : ReadyBook). is_marked (state_of b) caller) c.self.view_is)))

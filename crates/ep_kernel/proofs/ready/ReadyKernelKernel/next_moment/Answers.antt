@@ -3,6 +3,7 @@ use Rattle.ep_machine.specs.State.{State}
 use Rattle.ep_kernel.specs.ReadyBook.{state_of}
 use Rattle.ep_calls.specs.Driver.{TellsNext}
 use Rattle.ep_calls.proofs.KeepsLemmas.{state_is}
+use Rattle.ep_records.specs.Past.{whole}
 use Rattle.ep_kernel.proofs.ready.ReadyKernelKernel.next_moment.Goals as goal
 
 pub next_moment_with-requires : goal.next_moment_with-requires
@@ -12,5 +13,5 @@ pub returns : goal.returns
 returns c =
     let k = c.self.inside in
     let keeps = c.self.invariant.runs.keeps in
-    subst (λ (s : State). TellsNext s c.next_moment_with.result) (sym (state_is k.history.items k.parts keeps) ∙ ap state_of c.self.view_is)
+    subst (λ (s : State). TellsNext s c.next_moment_with.result) (sym (state_is (whole k.history) k.parts keeps) ∙ ap state_of c.self.view_is)
     (c.next_moment_with.ensures keeps.state keeps.quiet keeps.stands)

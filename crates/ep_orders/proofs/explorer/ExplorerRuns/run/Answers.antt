@@ -1,4 +1,4 @@
-use Rattle.std.proofs.Common.{◌≡◌, ◌+◌, ◌-◌, ◌∙◌, List, ap₂, drop, length, refl, rules, subst, sym, take, zip}
+use Rattle.std.proofs.Common.{◌≡◌, ◌+◌, ◌-◌, ◌∙◌, List, ap, ap₂, drop, length, refl, rules, subst, sym, take, zip}
 use Rattle.ep_base.specs.declared.record.Record.{Record}
 use Rattle.ep_orders.specs.declared.turn.Turn.{Turn}
 use Rattle.ep_orders.specs.Explorer.{world_in}
@@ -20,8 +20,10 @@ returns-clause-told g c =
     let order = c.in_ok-course.ensures.walked in
     let w = world_in g.M.Makes.limits c.args.self.now in
     let count : c.len-2.result ≡ length c.args.self.now.scenario.now.setup.items = search rules in
+    let here : c.history.result.now.items ≡ g.K.Kernel.past c.in_ok-course.course.kernel =
+    c.history.ensures.here ∙ ap (λ (t : List Record). drop (length t) (g.K.Kernel.past c.in_ok-course.course.kernel)) c.in_ok-course.ensures.taken in
     let records : c.as_slice-2.result.now ≡ drop (length c.args.self.now.scenario.now.setup.items) (g.K.Kernel.past c.in_ok-course.course.kernel) =
-    c.as_slice-2.ensures.value ∙ c.in_ok-records.ensures ∙ ap₂ (λ n (z : List Record). drop n z) count c.history.ensures.past in
+    c.as_slice-2.ensures.value ∙ c.in_ok-records.ensures ∙ ap₂ (λ n (z : List Record). drop n z) count here in
     let moves = ap₂ (λ (a : List Turn) (b : List Record). zip a b) c.as_slice.ensures.value records ∙ sym (told_moves _ _ c.args.path.now.items c.walk.new.path.items
     c.in_ok-course.course.turns.items (g.K.Kernel.past c.in_ok-course.course.kernel) order) in
     record {

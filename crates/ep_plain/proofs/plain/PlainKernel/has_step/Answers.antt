@@ -10,6 +10,7 @@ use Rattle.ep_plain.specs.Standing.{Standing, book_of}
 use Rattle.ep_plain.specs.These.{goes_with}
 use Rattle.ep_plain.specs.declared.dating.Dating.{Dating}
 use Rattle.ep_plain.specs.declared.plain.PlainKernel.TheInside.{Inside}
+use Rattle.ep_records.specs.Past.{whole}
 use Rattle.ep_plain.proofs.plain.PlainKernel.has_step.Goals as goal
 
 pub returns-clause-has : goal.returns-clause-has
@@ -20,8 +21,8 @@ returns-clause-has c =
     let event = c.args.event.now in
     let picks = c.args.picks.now in
     let since = k.dating.dates.since in
-    begins_each k.history.items k.parts standing.keeps (λ s. IsDated s since → c.allows.result ≡ goes_with k.parts.tables.limits caller event picks s) c.allows.ensures.goes (begun_dated standing.keeps.state since standing.dated)
-    ∙ (ap (λ (s : State). is_some (step k.parts.tables.limits s caller event picks)) (sym (state_is k.history.items k.parts standing.keeps))
+    begins_each (whole k.history) k.parts standing.keeps (λ s. IsDated s since → c.allows.result ≡ goes_with k.parts.tables.limits caller event picks s) c.allows.ensures.goes (begun_dated standing.keeps.state since standing.dated)
+    ∙ (ap (λ (s : State). is_some (step k.parts.tables.limits s caller event picks)) (sym (state_is (whole k.history) k.parts standing.keeps))
     ∙ ap (λ (b : Book). is_some (step b.limits (state_of b) caller event picks)) c.self.view_is)
 
 pub returns-clause-stays : goal.returns-clause-stays
@@ -35,7 +36,7 @@ invariant_of-self c =
     let standing = c.self.invariant.standing in
     let fits = standing.fits in
     record {
-      standing = subst (λ (d : Dating). Standing k.history.items k.parts d) (sym c.allows.ensures.others) (record {
+      standing = subst (λ (d : Dating). Standing (whole k.history) k.parts d) (sym c.allows.ensures.others) (record {
         keeps = standing.keeps;
         dated = standing.dated;
         ready = standing.ready;

@@ -13,4 +13,4 @@ returns-in-Some-clause-pushed c =
     let z : c.in-Some.z ≡ length b.numbers = search rules in
     let told = told_is b new c.args.reports.now c.args.numbers.now c.in-Some.y c.in-Some.z c.in-Ok.n c.in-Some.ensures.2 y z n as_many in
     λ _. rw (← c.self.view_is)
-    (slot_added b new _ _ _ _ (grown_by_reports b new _ _ c.in-Some.ensures.2) c.push_reserved.ensures.items (rw (told.0, told.1, to_z-of_z w32 c.args.slot.m (search rules)) refl) c.self.invariant)
+    (slot_added b new _ _ _ _ (grown_by_reports b new _ _ c.in-Some.ensures.2) c.push_reserved.ensures.items (rw (told.0, told.1, to_z-of_z w32 c.args.slot.m (search rules)) refl) c.self.invariant.0)

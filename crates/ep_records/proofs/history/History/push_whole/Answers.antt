@@ -10,8 +10,9 @@ invariant_of-self c =
     let new = c.push_long-place.new.self in
     let at : c.whole.result.x ≡ length b.long = search rules in
     let last = last_long b new c.args.one c.whole.result.x c.push_long-place.ensures.lists at in
-    within_added b new _ _ _ (grown_by_long b new _ c.push_long-place.ensures.lists) c.push_reserved.ensures.items
-    (whole_within new c.whole.result c.whole.ensures.what last.0) c.self.invariant
+    let within = within_added b new _ _ _ (grown_by_long b new _ c.push_long-place.ensures.lists) c.push_reserved.ensures.items
+    (whole_within new c.whole.result c.whole.ensures.what last.0) c.self.invariant.0 in
+    (within, c.self.invariant.1, c.self.invariant.2)
 
 pub returns-clause-items : goal.returns-clause-items
 returns-clause-items c =
@@ -21,5 +22,5 @@ returns-clause-items c =
     let last = last_long b new c.args.one c.whole.result.x c.push_long-place.ensures.lists at in
     let before : map (unpacked b) c.self.inside.slots.items ≡ c.args.self.now.items = search rules in
     slot_added b new _ _ _ _ (grown_by_long b new _ c.push_long-place.ensures.lists) c.push_reserved.ensures.items
-    (whole_is new c.whole.result c.whole.ensures.what ∙ last.1) c.self.invariant
+    (whole_is new c.whole.result c.whole.ensures.what ∙ last.1) c.self.invariant.0
     ∙ ap (λ (rs : List Record). rs ++ c.args.one ∷ []) before

@@ -8,4 +8,4 @@ returns-in-Some-clause-pushed c =
     let new = c.push_bytes.new.self in
     let given = given_is b new c.args.bytes.now c.in-Some.place c.in-Some.ensures.1 c.in-Some.ensures.0 in
     λ _. rw (← c.self.view_is)
-    (slot_added b new _ _ _ _ (grown_by_bytes b new _ c.in-Some.ensures.1) c.push_reserved.ensures.items (rw given refl) c.self.invariant)
+    (slot_added b new _ _ _ _ (grown_by_bytes b new _ c.in-Some.ensures.1) c.push_reserved.ensures.items (rw given refl) c.self.invariant.0)

@@ -1,0 +1,15 @@
+use Rattle.std.proofs.Common.{◌≡◌, List, subst, sym}
+use Rattle.ep_base.specs.declared.record.Record.{Record}
+use Rattle.ep_plain.specs.Standing.{Standing}
+use Rattle.ep_records.proofs.WholeLemmas.{all_stay}
+use Rattle.ep_records.specs.Past.{whole}
+use Rattle.ep_plain.proofs.plain.PlainKernelKernel.swap_history.Goals as goal
+
+pub invariant_of-self : goal.invariant_of-self
+invariant_of-self c =
+    let k = c.self.inside in
+    let same : whole c.swap.new.self ≡ whole k.history = all_stay _ c.swap.result k.history c.swap.new.self c.args.other.now.room c.swap.ensures.goes_on c.swap.ensures.err in
+    record {
+      standing = subst (λ (rs : List Record). Standing rs k.parts k.dating) (sym same) c.self.invariant.standing;
+      set = c.self.invariant.set;
+    }
