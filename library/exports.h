@@ -62,6 +62,7 @@ int32_t ep_records(struct ep_handle *handle, size_t *count);
 int32_t ep_recorded(struct ep_handle *handle, size_t place, struct ep_reply *reply, uint8_t *bytes, size_t bytes_length,
                     struct ep_report *reports, size_t reports_length);
 int32_t ep_line(struct ep_handle *handle, size_t place, uint8_t *line, size_t line_length, size_t *size);
+int32_t ep_forget(struct ep_handle *handle);
 int32_t ep_check(struct ep_handle *handle);
 
 #endif

@@ -30,6 +30,12 @@ struct sleeper {
     struct sleeper *next;
 };
 
+/* A descriptor that the history goes to as it comes. `status` is what ended it, or 0. */
+struct stream {
+    int fd, is_on, status;
+    unsigned int events; /* since the last write */
+};
+
 struct nippersage_kernel {
     pthread_mutex_t lock;
     pthread_cond_t changed;
@@ -45,6 +51,8 @@ struct nippersage_kernel {
     int most_reports;
     struct turns *turns; /* of threads that take turns, or NULL */
     struct order *order; /* the order whose calls these are, or NULL */
+    struct stream stream;
+    int has_forgotten; /* records that a stream has written */
 };
 
 /* What goes to the kernel and what comes back, beside numbers. */
@@ -71,6 +79,9 @@ int kernel_has_reports(struct nippersage_kernel *kernel, size_t most);
 /* As nippersage_watches_awaited, under the lock. */
 int kernel_watches_awaited(struct nippersage_kernel *kernel, uint32_t caller, struct nippersage_watch *watches,
                            int room);
+
+/* Counts an event of a kernel with a stream, under the lock, and writes the history if there is enough of it. */
+void history_goes_on(struct nippersage_kernel *kernel);
 
 /* Moves the clock to the next moment, under the lock, as a call of this task; 0 if no tick has an effect. */
 int kernel_go_on(struct nippersage_task task, int64_t *result);

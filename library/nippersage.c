@@ -54,6 +54,7 @@ int64_t kernel_make(struct nippersage_task task, struct exchange *x) {
                      x->bytes ? x->bytes : &none, x->bytes_length, x->reports > 0 ? kernel->reports : &no_reports,
                      x->reports);
     if (status >= 0) status = x->reply.result;
+    if (kernel->stream.is_on) history_goes_on(kernel);
     if (kernel->order) order_note(kernel->order, task, x, status);
     return status;
 }
@@ -188,6 +189,7 @@ const char *nippersage_bad_limit(const struct nippersage_limits *limits) {
 
 void nippersage_free(struct nippersage_kernel *kernel) {
     if (!kernel) return;
+    nippersage_stream(kernel, -1);
     ep_close(&kernel->handle);
     pthread_cond_destroy(&kernel->changed);
     pthread_mutex_destroy(&kernel->lock);
@@ -674,88 +676,4 @@ int nippersage_waiters(struct nippersage_kernel *kernel, struct nippersage_waite
     for (int i = 0; i < count && i < room; i++) waiters[i] = waiter_of(&kernel->parked[i]);
     kernel_leave(kernel);
     return count;
-}
-
-/* ---- the history ---- */
-
-int nippersage_reserve(struct nippersage_kernel *kernel, size_t events) {
-    int result;
-    if (!kernel) return -EINVAL;
-    kernel_enter(kernel);
-    result = ep_reserve(&kernel->handle, events);
-    kernel_leave(kernel);
-    return result;
-}
-
-int nippersage_records(struct nippersage_kernel *kernel, size_t *count) {
-    int result;
-    if (!kernel) return -EINVAL;
-    if (!count) return -EFAULT;
-    kernel_enter(kernel);
-    result = ep_records(&kernel->handle, count);
-    kernel_leave(kernel);
-    return result;
-}
-
-int nippersage_check(struct nippersage_kernel *kernel) {
-    int result;
-    if (!kernel) return -EINVAL;
-    kernel_enter(kernel);
-    result = ep_check(&kernel->handle);
-    kernel_leave(kernel);
-    return result;
-}
-
-static int write_all(int fd, const unsigned char *bytes, size_t count) {
-    while (count > 0) {
-        ssize_t taken = write(fd, bytes, count);
-        if (taken < 0 && errno == EINTR) continue;
-        if (taken < 0) return -errno;
-        if (taken == 0) return -EIO;
-        bytes += taken;
-        count -= (size_t)taken;
-    }
-    return 0;
-}
-
-/* A line, with room that grows. */
-struct line {
-    unsigned char *bytes;
-    size_t room;
-};
-
-/* Writes one record and the byte 10 behind it. */
-static int write_record(struct nippersage_kernel *kernel, size_t place, struct line *line, int fd) {
-    size_t size = 0;
-    int32_t status = ep_line(&kernel->handle, place, line->bytes, line->room - 1, &size);
-    while (status == -EMSGSIZE) {
-        unsigned char *more = realloc(line->bytes, size + 1);
-        if (!more) return -ENOMEM;
-        line->bytes = more;
-        line->room = size + 1;
-        status = ep_line(&kernel->handle, place, line->bytes, line->room - 1, &size);
-    }
-    if (status < 0) return status;
-    line->bytes[size] = '\n';
-    return write_all(fd, line->bytes, size + 1);
-}
-
-static int write_records(struct nippersage_kernel *kernel, int fd) {
-    struct line line = {malloc(1024), 1024};
-    size_t count = 0;
-    int status = ep_records(&kernel->handle, &count);
-    if (!line.bytes) return -ENOMEM;
-    for (size_t place = 0; place < count && status == 0; place++) status = write_record(kernel, place, &line, fd);
-    free(line.bytes);
-    return status;
-}
-
-int nippersage_history(struct nippersage_kernel *kernel, int fd) {
-    int saved = errno, status;
-    if (!kernel) return -EINVAL;
-    kernel_enter(kernel);
-    status = write_records(kernel, fd);
-    kernel_leave(kernel);
-    errno = saved;
-    return status;
 }

@@ -233,15 +233,24 @@ int nippersage_exit(struct nippersage_task task);
 /* Makes room for so many events more in the history, so that none asks for memory for its record. -ENOMEM. */
 int nippersage_reserve(struct nippersage_kernel *kernel, size_t events);
 
-/* How many records the history has: one for each event so far. */
+/* How many records are there: one for each event since the last write of a stream. */
 int nippersage_records(struct nippersage_kernel *kernel, size_t *count);
 
-/* Writes the history to a real descriptor, a record a line, as the program epaudit reads it. Minus the error of
- * write(2), and what stood before it has been written. Nothing else runs on the kernel meanwhile. */
+/* Writes the records that are there to a real descriptor, a record a line, as the program epaudit reads it. Minus the
+ * error of write(2), and what stood before it has been written. Nothing else runs on the kernel meanwhile. */
 int nippersage_history(struct nippersage_kernel *kernel, int fd);
 
-/* Makes every event of the history again and compares: 0, or -ENOMEM. -EBADMSG would say that the reference model
- * doesn't allow the history. It can't come of a library that is proved (nippersage_version). */
+/* Lets the history go to a real descriptor as it comes: those records that are there, and from now on some thousands at
+ * a time, each time whole lines. What was written is forgotten, so a run of any length takes a few megabytes. A process
+ * that ends without the next call leaves a history that is whole up to the last write.
+ * With another descriptor, or with -1 for none, what is left goes to the one before, and so it does in nippersage_free.
+ * 0, or the error that ended the stream before: minus that of write(2), or -ENOMEM. After such an error, which no call
+ * answers but this one, the records that weren't written whole stay, and all later ones. */
+int nippersage_stream(struct nippersage_kernel *kernel, int fd);
+
+/* Makes every event of the history again and compares: 0, or -ENOMEM, or -EINVAL once a stream has written records, which
+ * are not there any more: epaudit judges what was written. -EBADMSG would say that the reference model doesn't allow the
+ * history. It can't come of a library that is proved (nippersage_version). */
 int nippersage_check(struct nippersage_kernel *kernel);
 
 /* ---- threads that take turns ---- */

@@ -618,6 +618,75 @@ static void history(void) {
     fclose(file);
 }
 
+/* So many calls, each of which is refused. */
+static void ask_often(struct nippersage_kernel *of, int times) {
+    for (int i = 0; i < times; i++) IS(nippersage_close((struct nippersage_task){of, 0, 1}, 99), -EBADF);
+}
+
+/* Whether two files have the same bytes. */
+static int are_same(FILE *one, FILE *other) {
+    int byte;
+    rewind(one);
+    rewind(other);
+    do byte = getc(one);
+    while (byte == getc(other) && byte != EOF);
+    return byte == EOF && feof(other);
+}
+
+/* A history that goes out as it comes is that of a kernel which keeps it. */
+static void streams(void) {
+    struct nippersage_kernel *streamed, *kept;
+    FILE *first = tmpfile(), *second = tmpfile();
+    size_t count = 0;
+    IS(first && second, 1);
+    IS(nippersage_open(NULL, &streamed), 0);
+    IS(nippersage_open(NULL, &kept), 0);
+    IS(nippersage_stream(NULL, 1), -EINVAL);
+    IS(nippersage_stream(streamed, -1), 0);
+    ask_often(streamed, 3);
+    IS(nippersage_stream(streamed, fileno(first)), 0);
+    ask_often(streamed, 10000);
+    ask_often(kept, 10003);
+    IS(nippersage_records(streamed, &count), 0);
+    IS(count < 5000, 1);
+    IS(nippersage_check(streamed), -EINVAL);
+    IS(nippersage_stream(streamed, -1), 0);
+    IS(nippersage_records(streamed, &count), 0);
+    IS(count, 0);
+    ask_often(streamed, 2);
+    IS(nippersage_records(streamed, &count), 0);
+    IS(count, 2);
+    IS(nippersage_history(kept, fileno(second)), 0);
+    IS(are_same(first, second), 1);
+    nippersage_free(streamed);
+    nippersage_free(kept);
+    fclose(first);
+    fclose(second);
+}
+
+/* What can't be written stays, and is told once. What is left goes out when the kernel is freed. */
+static void streams_that_fail(void) {
+    struct nippersage_kernel *of;
+    FILE *file = tmpfile();
+    int closed = open("/dev/null", O_RDONLY);
+    size_t count = 0;
+    int lines = 0, byte;
+    IS(nippersage_open(NULL, &of), 0);
+    IS(nippersage_stream(of, closed), 0);
+    ask_often(of, 9000);
+    IS(nippersage_records(of, &count), 0);
+    IS(count, 9000);
+    IS(nippersage_check(of), 0);
+    IS(nippersage_stream(of, fileno(file)), -EBADF);
+    ask_often(of, 1);
+    nippersage_free(of);
+    rewind(file);
+    while ((byte = getc(file)) != EOF) lines += byte == '\n';
+    IS(lines, 9001);
+    fclose(file);
+    close(closed);
+}
+
 int main(int argc, char **argv) {
     version();
     opening();
@@ -640,6 +709,8 @@ int main(int argc, char **argv) {
     by_itself();
     many();
     history();
+    streams();
+    streams_that_fail();
     if (argc > 1) {
         int fd = open(argv[1], O_CREAT | O_TRUNC | O_WRONLY, 0600);
         IS(nippersage_history(kernel, fd), 0);

@@ -192,8 +192,8 @@ class Kernel(Task):
     """A kernel in its opening state, and of its tasks the one of caller 0 in process 1.
 
     `limits` are `Limits`, or six numbers. One that is out of its range is an OSError with EINVAL. `history` is the path
-    of a file, made anew, that gets the history, a line for each event: from the library at the end, from a program as
-    it goes.
+    of a file, made anew, that gets the history, a line for each event: from the library some thousands at a time and the
+    rest at the end, from a program as it goes. What the library has written takes no more memory.
 
     It runs in this process by the library, `LIBRARY`. If there is none, or a `program` is named, it is a program in a
     process of its own, by default `PROGRAM`. Then one thread at a time may use it, and it answers `MOST_CALLS` calls at
@@ -285,7 +285,8 @@ class Kernel(Task):
     def check(self) -> None:
         """Makes each event of the history again, and compares.
 
-        OSError with EBADMSG would say that the model doesn't allow it. It can't come of a library that is proved.
+        OSError with EBADMSG would say that the model doesn't allow it. It can't come of a library that is proved. EINVAL
+        comes once a part of the history was written to its file: `audit` judges that.
         """
         self._backend.check()
 

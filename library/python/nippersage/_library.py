@@ -9,7 +9,7 @@ import tempfile
 from ctypes import (
     POINTER, byref, c_char, c_char_p, c_int, c_int64, c_long, c_size_t, c_ssize_t, c_uint32, c_uint64, c_void_p,
 )
-from typing import Any, Callable, Dict, List, Optional, Sequence, Tuple
+from typing import IO, Any, Callable, Dict, List, Optional, Sequence, Tuple
 
 from ._numbers import UNITS, Ended, Limits, Waiter, Watch, limits_of, refusal, seconds, watch_of
 
@@ -118,6 +118,7 @@ _TAKEN: Dict[str, Tuple[Any, ...]] = {
     "exit": (Who,),
     "reserve": (c_void_p, c_size_t),
     "history": (c_void_p, c_int),
+    "stream": (c_void_p, c_int),
     "check": (c_void_p,),
     "read": (Who, c_int, c_void_p, c_size_t),
     "write": (Who, c_int, c_char_p, c_size_t),
@@ -159,10 +160,11 @@ def library_version() -> Optional[str]:
 
 
 class _Holder:
-    """Frees the kernel when nothing refers to it any more."""
+    """Frees the kernel when nothing refers to it any more. Until then the file stays open that its history goes to."""
 
     def __init__(self, functions: _Functions, pointer: int) -> None:
         self.pointer = pointer
+        self.file: Optional[IO[bytes]] = None
         self._free = functions.free
 
     def __del__(self) -> None:
@@ -185,15 +187,18 @@ class Library:
         self._whos: Dict[Tuple[int, int], Who] = {}
         self._rooms: Dict[int, int] = {}
         self._ended = False
-        self._history = None if history is None else open(history, "wb")
+        self._path = history
+        if history is not None:
+            self._holder.file = open(history, "wb")
+            self._write_history()
 
     def end(self) -> int:
         """Ends the kernel for its callers. It is freed once no task refers to it any more."""
         if not self._ended:
             self._ended = True
-            if self._history is not None:
-                with self._history as file:
-                    self._done(self._f.history(self._holder.pointer, file.fileno()))
+            if self._holder.file is not None:
+                with self._holder.file:
+                    self._done(self._f.stream(self._holder.pointer, -1))
             for who in list(self._whos.values()):
                 who.kernel = None
         return 0
@@ -381,8 +386,18 @@ class Library:
         self._pointer()
         return self.last_history()
 
+    def _write_history(self) -> None:
+        """Has what is there of the history written to its file, and from now on the rest as it comes."""
+        assert self._holder.file is not None
+        self._done(self._f.stream(self._holder.pointer, self._holder.file.fileno()))
+
     def last_history(self) -> str:
         """The history, also after the end: the kernel is there as long as this is."""
+        if self._path is not None:
+            if not self._ended:
+                self._write_history()
+            with open(self._path, "rb") as written:
+                return written.read().decode("ascii")
         with tempfile.TemporaryFile() as file:
             self._done(self._f.history(self._holder.pointer, file.fileno()))
             file.seek(0)

@@ -262,5 +262,6 @@ extern "C" {
 
     pub fn nippersage_reserve(kernel: *mut Kernel, events: usize) -> c_int;
     pub fn nippersage_history(kernel: *mut Kernel, fd: c_int) -> c_int;
+    pub fn nippersage_stream(kernel: *mut Kernel, fd: c_int) -> c_int;
     pub fn nippersage_check(kernel: *mut Kernel) -> c_int;
 }

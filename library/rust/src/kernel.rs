@@ -5,10 +5,11 @@ use crate::{ffi, time, Errno, Fd, Pid, Task};
 use std::ffi::CStr;
 use std::io::{self, Write};
 use std::mem::ManuallyDrop;
-use std::os::fd::{AsFd, AsRawFd};
+use std::os::fd::{AsFd, AsRawFd, OwnedFd};
 use std::os::raw::c_int;
 use std::os::unix::net::UnixStream;
 use std::ptr::{self, NonNull};
+use std::sync::{Mutex, PoisonError};
 use std::thread;
 use std::time::Duration;
 
@@ -100,11 +101,13 @@ impl From<ffi::Waiter> for Waiter {
 /// A simulated kernel. Any thread may use it; the library has a lock, which each call takes once.
 ///
 /// A kernel begins with one process, [`Pid::FIRST`], whose descriptors 0, 1 and 2 name one file
-/// that can't be polled. Its clock stands at zero. Its history has a record for each call and is
-/// never cut, so a kernel is meant to live as long as one test.
+/// that can't be polled. Its clock stands at zero. Its history has a record for each call, some 50
+/// bytes of memory, until [`Kernel::stream_history`] writes it out.
 #[derive(Debug)]
 pub struct Kernel {
     raw: NonNull<ffi::Kernel>,
+    /// What the history goes to as it comes. It is closed once the kernel is freed.
+    stream: Mutex<Option<OwnedFd>>,
 }
 
 // SAFETY: each function of the library takes the kernel's lock, and no kernel belongs to a thread.
@@ -125,6 +128,7 @@ impl Kernel {
         checked(unsafe { ffi::nippersage_open(limits, &mut raw) })?;
         Ok(Kernel {
             raw: NonNull::new(raw).ok_or(Errno::ENOMEM)?,
+            stream: Mutex::new(None),
         })
     }
 
@@ -263,6 +267,48 @@ impl Kernel {
         Ok(())
     }
 
+    /// Lets the history go to a file of the system as it comes: the records that are there, and
+    /// from now on some thousands at a time. What was written is forgotten, so a run of any length
+    /// takes a few megabytes. The rest is written by [`Kernel::end_stream`], or when the kernel is
+    /// dropped. If the process ends before, what stands in the file is whole up to the last write.
+    ///
+    /// [`Kernel::history`] and [`Kernel::save_history`] write what wasn't forgotten. The error is
+    /// that which ended a stream before this one: of a write, or ENOMEM.
+    ///
+    /// ```
+    /// use nippersage::{Flags, Kernel};
+    ///
+    /// let path = std::env::temp_dir().join(format!("stream-{}.history", std::process::id()));
+    /// let kernel = Kernel::new()?;
+    /// kernel.stream_history(std::fs::File::create(&path)?)?;
+    /// kernel.task(0).eventfd(0, Flags::CLOEXEC)?;
+    /// kernel.end_stream()?;
+    /// assert_eq!(std::fs::read_to_string(&path)?.lines().count(), 1);
+    /// # std::fs::remove_file(&path)?;
+    /// # Ok::<(), Box<dyn std::error::Error>>(())
+    /// ```
+    pub fn stream_history(&self, file: impl Into<OwnedFd>) -> io::Result<()> {
+        self.stream_to(Some(file.into()))
+    }
+
+    /// Writes what is left of the history to the file of [`Kernel::stream_history`], and closes it.
+    /// Later records stay in memory. The error is that of this write, or of an earlier one, which
+    /// ended the stream: the records since the last write that was done are still there.
+    pub fn end_stream(&self) -> io::Result<()> {
+        self.stream_to(None)
+    }
+
+    fn stream_to(&self, file: Option<OwnedFd>) -> io::Result<()> {
+        let mut held = self.stream.lock().unwrap_or_else(PoisonError::into_inner);
+        let fd = file.as_ref().map_or(-1, AsRawFd::as_raw_fd);
+        // SAFETY: the kernel lives, and the descriptor is open as long as the history goes there:
+        // it is held until there is another one, and dropped behind the kernel.
+        let status = unsafe { ffi::nippersage_stream(self.raw(), fd) };
+        *held = file;
+        checked(status).map(drop)?;
+        Ok(())
+    }
+
     /// A kernel of the library's own, which isn't freed when what comes back is dropped.
     ///
     /// # Safety
@@ -271,6 +317,7 @@ impl Kernel {
     pub(crate) unsafe fn borrowed(raw: *mut ffi::Kernel) -> ManuallyDrop<Kernel> {
         ManuallyDrop::new(Kernel {
             raw: NonNull::new(raw).expect("the library gives its kernel"),
+            stream: Mutex::new(None),
         })
     }
 

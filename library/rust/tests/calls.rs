@@ -550,6 +550,53 @@ impl Write for Full {
     }
 }
 
+/// What two kernels are asked alike.
+fn ask_often(kernel: &Kernel) {
+    for _ in 0..10_000 {
+        let _ = kernel.task(0).close(99);
+    }
+}
+
+/// A file in the folder for temporary files, by a name that no other test has.
+fn file_of(name: &str) -> std::path::PathBuf {
+    std::env::temp_dir().join(format!("nippersage-{}-{name}", std::process::id()))
+}
+
+#[test]
+fn a_history_that_goes_out_as_it_comes() {
+    let path = file_of("stream.history");
+    let (streamed, kept) = (Kernel::new().unwrap(), Kernel::new().unwrap());
+    streamed
+        .stream_history(std::fs::File::create(&path).unwrap())
+        .unwrap();
+    ask_often(&streamed);
+    ask_often(&kept);
+    let part = std::fs::read(&path).unwrap();
+    streamed.end_stream().unwrap();
+    let whole = std::fs::read(&path).unwrap();
+    std::fs::remove_file(&path).unwrap();
+    let mut lines = Vec::new();
+    kept.history(&mut lines).unwrap();
+    assert_eq!(whole, lines);
+    assert!(!part.is_empty() && part.len() < whole.len() && whole.starts_with(&part));
+    assert_eq!(streamed.check(), Err(Errno::EINVAL));
+    assert_eq!(kept.check(), Ok(()));
+}
+
+#[test]
+fn a_stream_that_cannot_be_written() {
+    let kernel = Kernel::new().unwrap();
+    kernel
+        .stream_history(std::fs::File::open("/dev/null").unwrap())
+        .unwrap();
+    ask_often(&kernel);
+    assert_eq!(kernel.end_stream().unwrap_err().raw_os_error(), Some(9));
+    let mut lines = Vec::new();
+    kernel.history(&mut lines).unwrap();
+    assert_eq!(lines.iter().filter(|byte| **byte == b'\n').count(), 10_000);
+    assert_eq!(kernel.check(), Ok(()));
+}
+
 #[test]
 fn a_history_without_room() {
     let kernel = Kernel::new().unwrap();
