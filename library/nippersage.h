@@ -90,7 +90,7 @@ struct nippersage_watch {
     int is_armed;         /* 0 for a one-shot, from its report to the next EPOLL_CTL_MOD */
     int is_reportable;    /* 1 if a wait would report it now */
     uint64_t reported_in; /* the event of its last report, by its place in the history from 1 on; 0 if never reported */
-    uint32_t reported_to; /* the caller that got that report */
+    uint32_t reported_to; /* the caller that got that report; 0 too if a stream has written its record */
 };
 
 /* What a wait by hand answers while its caller is parked. It is no error number. */
@@ -244,8 +244,9 @@ int nippersage_history(struct nippersage_kernel *kernel, int fd);
  * a time, each time whole lines. What was written is forgotten, so a run of any length takes a few megabytes. A process
  * that ends without the next call leaves a history that is whole up to the last write.
  * With another descriptor, or with -1 for none, what is left goes to the one before, and so it does in nippersage_free.
- * 0, or the error that ended the stream before: minus that of write(2), or -ENOMEM. After such an error, which no call
- * answers but this one, the records that weren't written whole stay, and all later ones. */
+ * 0, or the error that ended the stream before: minus that of write(2), or -ENOMEM. No call but this one answers it. The
+ * records since the last write that was done whole stay then, and all later ones; the first of them may stand in the
+ * file already, so what is written again belongs into another one. */
 int nippersage_stream(struct nippersage_kernel *kernel, int fd);
 
 /* Makes every event of the history again and compares: 0, or -ENOMEM, or -EINVAL once a stream has written records, which

@@ -137,8 +137,8 @@ class Watch(NamedTuple):
     is_armed: bool
     #: Whether a wait would report it now.
     is_reportable: bool
-    #: The event of its last report, by its place in the history, from 1 on, and the caller that got it. None if it was
-    #: never reported.
+    #: The event of its last report, by its place in the history, from 1 on, and the caller that got it: 0 if the record
+    #: was written to the kernel's history file already. None if it was never reported.
     reported_in: Optional[int]
     reported_to: Optional[int]
 

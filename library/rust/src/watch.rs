@@ -21,7 +21,8 @@ pub struct Watch {
     pub is_reportable: bool,
     /// The event of its last report, by its place in the history from 1 on; `None` if there was none.
     pub reported_in: Option<u64>,
-    /// The caller that got that report.
+    /// The caller that got that report; 0 if [`crate::Kernel::stream_history`] has written its
+    /// record already.
     pub reported_to: Option<u32>,
 }
 
