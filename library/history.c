@@ -5,8 +5,10 @@
 #include <stdlib.h>
 #include <unistd.h>
 
-/* So many events come between two writes to the descriptor of a stream: some 200 KB of records. */
-#define EVENTS_A_WRITE 4096
+/* What a record takes by itself, and how much may be there between two writes to the descriptor of a stream: 4,096
+ * records, or fewer if they have bytes or reports with them. */
+#define RECORD_BYTES 48
+#define BYTES_A_PIECE ((size_t)4096 * RECORD_BYTES)
 
 /* Lines go to a descriptor so many bytes at a time, and a longer one by itself. */
 #define BYTES_A_WRITE ((size_t)65536)
@@ -30,11 +32,23 @@ int nippersage_records(struct nippersage_kernel *kernel, size_t *count) {
     return result;
 }
 
+int nippersage_events(struct nippersage_kernel *kernel, uint64_t *count) {
+    size_t there = 0;
+    int result;
+    if (!kernel) return -EINVAL;
+    if (!count) return -EFAULT;
+    kernel_enter(kernel);
+    result = ep_records(&kernel->handle, &there);
+    if (result == 0) *count = kernel->forgotten + there;
+    kernel_leave(kernel);
+    return result;
+}
+
 int nippersage_check(struct nippersage_kernel *kernel) {
     int result;
     if (!kernel) return -EINVAL;
     kernel_enter(kernel);
-    result = kernel->has_forgotten ? -EINVAL : ep_check(&kernel->handle);
+    result = kernel->forgotten > 0 ? -EINVAL : ep_check(&kernel->handle);
     kernel_leave(kernel);
     return result;
 }
@@ -112,31 +126,46 @@ int nippersage_history(struct nippersage_kernel *kernel, int fd) {
 
 /* ---- a history that goes out as it comes ---- */
 
-/* Writes the records that are there, and forgets them. What fails ends the stream, and leaves them. */
-static void write_piece(struct nippersage_kernel *kernel) {
-    struct stream *stream = &kernel->stream;
-    stream->events = 0;
-    stream->status = write_records(kernel, stream->fd);
-    if (stream->status == 0) stream->status = ep_forget(&kernel->handle);
-    if (stream->status == 0) kernel->has_forgotten = 1;
-    if (stream->status < 0) stream->is_on = 0;
+static int forget_records(struct nippersage_kernel *kernel) {
+    size_t count = 0;
+    int status = ep_records(&kernel->handle, &count);
+    if (status == 0) status = ep_forget(&kernel->handle);
+    if (status == 0) kernel->forgotten += count;
+    return status;
 }
 
-void history_goes_on(struct nippersage_kernel *kernel) {
+/* Writes the records that are there, if they go anywhere, and forgets them. What fails ends the stream, and leaves
+ * them. */
+static void write_piece(struct nippersage_kernel *kernel) {
+    struct stream *stream = &kernel->stream;
     int saved = errno;
-    if (++kernel->stream.events < EVENTS_A_WRITE) return;
-    write_piece(kernel);
+    stream->bytes = 0;
+    stream->status = stream->fd == NIPPERSAGE_FORGET ? 0 : write_records(kernel, stream->fd);
+    if (stream->status == 0) stream->status = forget_records(kernel);
+    if (stream->status < 0) stream->is_on = 0;
     errno = saved;
 }
 
+/* What the record of an event takes, with the bytes that were given or read, or its reports. */
+static size_t bytes_of(const struct exchange *x, int64_t result) {
+    size_t found = result > 0 ? (size_t)result : 0, bytes = RECORD_BYTES + x->given_length;
+    if (x->bytes) bytes += found;
+    if (x->reports > 0) bytes += found * sizeof(struct ep_report);
+    return bytes;
+}
+
+void history_goes_on(struct nippersage_kernel *kernel, const struct exchange *x, int64_t result) {
+    kernel->stream.bytes += bytes_of(x, result);
+    if (kernel->stream.bytes >= BYTES_A_PIECE) write_piece(kernel);
+}
+
 int nippersage_stream(struct nippersage_kernel *kernel, int fd) {
-    int saved = errno, status;
+    int status;
     if (!kernel) return -EINVAL;
     kernel_enter(kernel);
     if (kernel->stream.is_on) write_piece(kernel);
     status = kernel->stream.status;
-    kernel->stream = (struct stream){.fd = fd, .is_on = fd >= 0};
+    kernel->stream = (struct stream){.fd = fd, .is_on = fd >= 0 || fd == NIPPERSAGE_FORGET};
     kernel_leave(kernel);
-    errno = saved;
     return status;
 }

@@ -30,10 +30,10 @@ struct sleeper {
     struct sleeper *next;
 };
 
-/* A descriptor that the history goes to as it comes. `status` is what ended it, or 0. */
+/* A descriptor that the history goes to as it comes, or NIPPERSAGE_FORGET. `status` is what ended it, or 0. */
 struct stream {
     int fd, is_on, status;
-    unsigned int events; /* since the last write */
+    size_t bytes; /* that the records since the last write take */
 };
 
 struct nippersage_kernel {
@@ -52,7 +52,7 @@ struct nippersage_kernel {
     struct turns *turns; /* of threads that take turns, or NULL */
     struct order *order; /* the order whose calls these are, or NULL */
     struct stream stream;
-    int has_forgotten; /* records that a stream has written */
+    uint64_t forgotten; /* so many records are there no more */
 };
 
 /* What goes to the kernel and what comes back, beside numbers. */
@@ -80,8 +80,9 @@ int kernel_has_reports(struct nippersage_kernel *kernel, size_t most);
 int kernel_watches_awaited(struct nippersage_kernel *kernel, uint32_t caller, struct nippersage_watch *watches,
                            int room);
 
-/* Counts an event of a kernel with a stream, under the lock, and writes the history if there is enough of it. */
-void history_goes_on(struct nippersage_kernel *kernel);
+/* Counts an event of a kernel with a stream and what it came to, under the lock, and writes the history if there is
+ * enough of it. */
+void history_goes_on(struct nippersage_kernel *kernel, const struct exchange *x, int64_t result);
 
 /* Moves the clock to the next moment, under the lock, as a call of this task; 0 if no tick has an effect. */
 int kernel_go_on(struct nippersage_task task, int64_t *result);

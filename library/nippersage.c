@@ -54,7 +54,7 @@ int64_t kernel_make(struct nippersage_task task, struct exchange *x) {
                      x->bytes ? x->bytes : &none, x->bytes_length, x->reports > 0 ? kernel->reports : &no_reports,
                      x->reports);
     if (status >= 0) status = x->reply.result;
-    if (kernel->stream.is_on) history_goes_on(kernel);
+    if (kernel->stream.is_on) history_goes_on(kernel, x, status);
     if (kernel->order) order_note(kernel->order, task, x, status);
     return status;
 }

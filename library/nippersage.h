@@ -90,7 +90,7 @@ struct nippersage_watch {
     int is_armed;         /* 0 for a one-shot, from its report to the next EPOLL_CTL_MOD */
     int is_reportable;    /* 1 if a wait would report it now */
     uint64_t reported_in; /* the event of its last report, by its place in the history from 1 on; 0 if never reported */
-    uint32_t reported_to; /* the caller that got that report; 0 too if a stream has written its record */
+    uint32_t reported_to; /* the caller that got that report; 0 too if a stream has taken its record */
 };
 
 /* What a wait by hand answers while its caller is parked. It is no error number. */
@@ -236,20 +236,28 @@ int nippersage_reserve(struct nippersage_kernel *kernel, size_t events);
 /* How many records are there: one for each event since the last write of a stream. */
 int nippersage_records(struct nippersage_kernel *kernel, size_t *count);
 
+/* How many events there were, each of which has a record or had one before a stream took it. */
+int nippersage_events(struct nippersage_kernel *kernel, uint64_t *count);
+
 /* Writes the records that are there to a real descriptor, a record a line, as the program epaudit reads it. Minus the
  * error of write(2), and what stood before it has been written. Nothing else runs on the kernel meanwhile. */
 int nippersage_history(struct nippersage_kernel *kernel, int fd);
 
+/* In place of a descriptor: the records go nowhere. It is no error number. */
+#define NIPPERSAGE_FORGET (-4097)
+
 /* Lets the history go to a real descriptor as it comes: those records that are there, and from now on some thousands at
- * a time, each time whole lines. What was written is forgotten, so a run of any length takes a few megabytes. A process
- * that ends without the next call leaves a history that is whole up to the last write.
+ * a time, each time whole lines. Fewer go at a time if they have many bytes with them. What was written is forgotten, so
+ * a run of any length takes a few megabytes. A process that ends without the next call leaves a history that is whole up
+ * to the last write.
+ * With NIPPERSAGE_FORGET records are forgotten as they come, and nothing is written: for a run that nobody will judge.
  * With another descriptor, or with -1 for none, what is left goes to the one before, and so it does in nippersage_free.
  * 0, or the error that ended the stream before: minus that of write(2), or -ENOMEM. No call but this one answers it. The
  * records since the last write that was done whole stay then, and all later ones; the first of them may stand in the
  * file already, so what is written again belongs into another one. */
 int nippersage_stream(struct nippersage_kernel *kernel, int fd);
 
-/* Makes every event of the history again and compares: 0, or -ENOMEM, or -EINVAL once a stream has written records, which
+/* Makes every event of the history again and compares: 0, or -ENOMEM, or -EINVAL once a stream has taken records, which
  * are not there any more: epaudit judges what was written. -EBADMSG would say that the reference model doesn't allow the
  * history. It can't come of a library that is proved (nippersage_version). */
 int nippersage_check(struct nippersage_kernel *kernel);

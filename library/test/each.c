@@ -664,13 +664,20 @@ static void streams(void) {
     fclose(second);
 }
 
+/* How many lines a file has. */
+static int lines_of(FILE *file) {
+    int lines = 0, byte;
+    rewind(file);
+    while ((byte = getc(file)) != EOF) lines += byte == '\n';
+    return lines;
+}
+
 /* What can't be written stays, and is told once. What is left goes out when the kernel is freed. */
 static void streams_that_fail(void) {
     struct nippersage_kernel *of;
     FILE *file = tmpfile();
     int closed = open("/dev/null", O_RDONLY);
     size_t count = 0;
-    int lines = 0, byte;
     IS(nippersage_open(NULL, &of), 0);
     IS(nippersage_stream(of, closed), 0);
     ask_often(of, 9000);
@@ -680,11 +687,71 @@ static void streams_that_fail(void) {
     IS(nippersage_stream(of, fileno(file)), -EBADF);
     ask_often(of, 1);
     nippersage_free(of);
-    rewind(file);
-    while ((byte = getc(file)) != EOF) lines += byte == '\n';
-    IS(lines, 9001);
+    IS(lines_of(file), 9001);
     fclose(file);
     close(closed);
+}
+
+/* Records that go nowhere are forgotten as they come, and their events are counted all the same. */
+static void forgets(void) {
+    struct nippersage_kernel *of;
+    FILE *file = tmpfile();
+    uint64_t events = 77;
+    size_t count = 0;
+    IS(nippersage_open(NULL, &of), 0);
+    IS(nippersage_events(NULL, &events), -EINVAL);
+    IS(nippersage_events(of, NULL), -EFAULT);
+    IS(nippersage_events(of, &events), 0);
+    IS(events, 0);
+    IS(nippersage_stream(of, NIPPERSAGE_FORGET), 0);
+    IS(nippersage_check(of), 0);
+    ask_often(of, 10000);
+    IS(nippersage_records(of, &count), 0);
+    IS(count < 5000, 1);
+    IS(nippersage_check(of), -EINVAL);
+    IS(nippersage_events(of, &events), 0);
+    IS(events, 10000);
+    IS(nippersage_stream(of, fileno(file)), 0);
+    IS(nippersage_records(of, &count), 0);
+    IS(count, 0);
+    ask_often(of, 5000);
+    IS(nippersage_stream(of, NIPPERSAGE_FORGET), 0);
+    ask_often(of, 7);
+    IS(nippersage_stream(of, -1), 0);
+    ask_often(of, 2);
+    IS(nippersage_records(of, &count), 0);
+    IS(count, 2);
+    IS(nippersage_events(of, &events), 0);
+    IS(events, 15009);
+    nippersage_free(of);
+    IS(lines_of(file), 5000);
+    fclose(file);
+}
+
+/* Bytes and reports count for how much is there at a time. */
+static void forgets_bytes(void) {
+    static char bytes[4096];
+    struct epoll_event event = {.events = EPOLLIN}, found[64];
+    struct nippersage_kernel *of;
+    int ends[2], ep;
+    size_t count = 0, most = 0;
+    IS(nippersage_open(NULL, &of), 0);
+    struct nippersage_task task = {of, 1, 1};
+    IS(nippersage_pipe2(task, ends, 0), 0);
+    IS(nippersage_stream(of, NIPPERSAGE_FORGET), 0);
+    for (int i = 0; i < 100; i++) {
+        IS(nippersage_write(task, ends[1], bytes, sizeof bytes), sizeof bytes);
+        IS(nippersage_read(task, ends[0], bytes, sizeof bytes), sizeof bytes);
+        IS(nippersage_records(of, &count), 0);
+        if (count > most) most = count;
+    }
+    IS(most > 40 && most < 50, 1);
+    ep = nippersage_epoll_create1(task, 0);
+    for (int i = 0; i < 64; i++) IS(nippersage_epoll_ctl(task, ep, EPOLL_CTL_ADD, nippersage_eventfd(task, 1, 0), &event), 0);
+    for (int i = 0; i < 1000; i++) IS(nippersage_epoll_wait(task, ep, found, 64, 0), 64);
+    IS(nippersage_records(of, &count), 0);
+    IS(count < 500, 1);
+    nippersage_free(of);
 }
 
 int main(int argc, char **argv) {
@@ -711,6 +778,8 @@ int main(int argc, char **argv) {
     history();
     streams();
     streams_that_fail();
+    forgets();
+    forgets_bytes();
     if (argc > 1) {
         int fd = open(argv[1], O_CREAT | O_TRUNC | O_WRONLY, 0600);
         IS(nippersage_history(kernel, fd), 0);

@@ -6,6 +6,8 @@ use std::ptr;
 
 /// What a wait by hand answers while its caller is parked.
 pub const PARKED: c_int = -4096;
+/// In place of a descriptor: the records of a stream go nowhere.
+pub const FORGET: c_int = -4097;
 
 /// A kernel, which is seen through pointers only.
 #[repr(C)]

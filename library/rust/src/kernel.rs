@@ -102,7 +102,8 @@ impl From<ffi::Waiter> for Waiter {
 ///
 /// A kernel begins with one process, [`Pid::FIRST`], whose descriptors 0, 1 and 2 name one file
 /// that can't be polled. Its clock stands at zero. Its history has a record for each call, some 50
-/// bytes of memory, until [`Kernel::stream_history`] writes it out.
+/// bytes of memory, until [`Kernel::stream_history`] writes it out or [`Kernel::forget_history`]
+/// forgets it.
 #[derive(Debug)]
 pub struct Kernel {
     raw: NonNull<ffi::Kernel>,
@@ -288,19 +289,26 @@ impl Kernel {
     /// # Ok::<(), Box<dyn std::error::Error>>(())
     /// ```
     pub fn stream_history(&self, file: impl Into<OwnedFd>) -> io::Result<()> {
-        self.stream_to(Some(file.into()))
+        self.stream_to(Some(file.into()), -1)
     }
 
     /// Writes what is left of the history to the file of [`Kernel::stream_history`], and closes it.
     /// Later records stay in memory. The error is that of this write, or of an earlier one, which
     /// ended the stream: the records since the last write that was done are still there.
     pub fn end_stream(&self) -> io::Result<()> {
-        self.stream_to(None)
+        self.stream_to(None, -1)
     }
 
-    fn stream_to(&self, file: Option<OwnedFd>) -> io::Result<()> {
+    /// Lets records be forgotten as they come, so that a run of any length takes a few megabytes: one
+    /// that nobody will judge. [`Kernel::end_stream`] ends that. The error is that which ended a
+    /// stream before this one.
+    pub fn forget_history(&self) -> io::Result<()> {
+        self.stream_to(None, ffi::FORGET)
+    }
+
+    fn stream_to(&self, file: Option<OwnedFd>, otherwise: c_int) -> io::Result<()> {
         let mut held = self.stream.lock().unwrap_or_else(PoisonError::into_inner);
-        let fd = file.as_ref().map_or(-1, AsRawFd::as_raw_fd);
+        let fd = file.as_ref().map_or(otherwise, AsRawFd::as_raw_fd);
         // SAFETY: the kernel lives, and the descriptor is open as long as the history goes there:
         // it is held until there is another one, and dropped behind the kernel.
         let status = unsafe { ffi::nippersage_stream(self.raw(), fd) };

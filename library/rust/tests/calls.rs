@@ -584,6 +584,19 @@ fn a_history_that_goes_out_as_it_comes() {
 }
 
 #[test]
+fn a_history_that_is_forgotten() {
+    let kernel = Kernel::new().unwrap();
+    kernel.forget_history().unwrap();
+    ask_often(&kernel);
+    kernel.end_stream().unwrap();
+    kernel.task(0).close(99).unwrap_err();
+    let mut lines = Vec::new();
+    kernel.history(&mut lines).unwrap();
+    assert_eq!(lines.iter().filter(|byte| **byte == b'\n').count(), 1);
+    assert_eq!(kernel.check(), Err(Errno::EINVAL));
+}
+
+#[test]
 fn a_stream_that_cannot_be_written() {
     let kernel = Kernel::new().unwrap();
     kernel
