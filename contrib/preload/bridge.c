@@ -107,19 +107,6 @@ static size_t unread_of(const struct end *end) {
     return end->is_socket || (size_t)unread > end->shown ? end->shown : (size_t)unread;
 }
 
-/* A write to a pipe whose reader has gone sends no signal to the program. */
-static long write_quietly(int fd, const char *bytes, size_t count) {
-    uint64_t pipe = UINT64_C(1) << (SIGPIPE - 1), before = 0, pending = 0;
-    static const struct timespec none;
-    long taken;
-    RAW(SYS_rt_sigprocmask, SIG_BLOCK, &pipe, &before, sizeof before);
-    if (before & pipe) RAW(SYS_rt_sigpending, &pending, sizeof pending);
-    taken = RAW(SYS_write, fd, bytes, count);
-    if (taken == -EPIPE && !(pending & pipe)) RAW(SYS_rt_sigtimedwait, &pipe, NULL, &none, sizeof pipe);
-    RAW(SYS_rt_sigprocmask, SIG_SETMASK, &before, NULL, sizeof before);
-    return taken;
-}
-
 /* A socket whose bytes the program itself asks for is the program's, as long as it is open there. So is one to which a
    child has written, for children have copies of ends that they never read, as those of workers that were made before
    them. One that an instance only asks for is shown all the same if it can be taken back. */

@@ -1,4 +1,4 @@
-/* The one simulated kernel of a program, the callers of its threads, and what is written when the program ends. */
+/* The one simulated kernel of a program, the callers of its threads, and the end of the program. */
 #include "preload.h"
 
 #include <dlfcn.h>
@@ -6,10 +6,10 @@
 #include <stdarg.h>
 #include <stdio.h>
 #include <stdlib.h>
+#include <sys/syscall.h>
 
 FORWARD(_exit)
 FORWARD(pause)
-FORWARD(write)
 
 enum { MOST_CALLERS = 1 << 30 };
 
@@ -54,14 +54,15 @@ void *next_of(const char *name) {
     return found;
 }
 
-/* Nothing here asks for a setting, for a setting may be what the line is about. */
+/* Nothing here asks for a setting, for a setting may be what the line is about. A line may be about a call that holds a
+   lock: so it is written without the C library, in which a thread may be cancelled. */
 static void say_all(const char *format, va_list arguments) {
     char line[512];
     int size = snprintf(line, sizeof line, "nippersage: ");
     size += vsnprintf(line + size, sizeof line - (size_t)size - 1, format, arguments);
     if ((size_t)size > sizeof line - 2) size = sizeof line - 2;
     line[size++] = '\n';
-    if (next_write()(STDERR_FILENO, line, (size_t)size) < 0) return;
+    RAW(SYS_write, STDERR_FILENO, line, size);
 }
 
 void say(const char *format, ...) {
@@ -83,6 +84,7 @@ static void start(void) {
     bound_real_descriptors();
     status = make_table();
     if (status == 0) status = nippersage_open(&settings()->limits, &first.kernel);
+    if (status == 0) begin_history(first.kernel);
     sleeping = status < 0 ? status : nippersage_epoll_create1(first, 0);
     if (sleeping >= 0 && (status = nippersage_tick(first, &began)) < 0) sleeping = status;
     if (sleeping < 0) {
@@ -94,19 +96,14 @@ static void start(void) {
     is_starting = false;
 }
 
-/* The history is full: the program ends before the machine is out of memory. What it has printed is written, unless
-   another thread is printing: this thread may hold a lock for which that one waits. */
+/* The history has as many records as the user allows. What the program has printed is written, unless another thread
+   is printing: this thread may hold a lock for which that one waits. */
 static _Noreturn void end_full(void) {
     static atomic_flag is_told = ATOMIC_FLAG_INIT;
     if (atomic_flag_test_and_set(&is_told))
         for (;;) next_pause()();
-    if (settings()->looks_seldom) {
-        say("the history has %zu records, as many as half of the memory holds (NIPPERSAGE_RECORDS); status %d",
-            settings()->records, STATUS_FULL);
-    } else {
-        say("the history has %zu records, as many as NIPPERSAGE_RECORDS allows; status %d", settings()->records,
-            STATUS_FULL);
-    }
+    say("the history has %llu records, as many as NIPPERSAGE_RECORDS allows; status %d",
+        (unsigned long long)settings()->records, STATUS_FULL);
     if (ftrylockfile(stdout) == 0) {
         fflush(stdout);
         funlockfile(stdout);
@@ -115,8 +112,8 @@ static _Noreturn void end_full(void) {
 }
 
 static void look_at_records(void) {
-    size_t records = 0;
-    if (nippersage_records(kernel, &records) == 0 && records >= settings()->records) end_full();
+    uint64_t records = 0;
+    if (nippersage_events(kernel, &records) == 0 && records >= settings()->records) end_full();
 }
 
 /* While a thread makes the kernel, a handler that breaks into it finds none, and its calls answer EINVAL. */
@@ -127,7 +124,7 @@ struct nippersage_task self(void) {
     atomic_store_explicit(&this_thread.calls, calls, memory_order_relaxed);
     if (*caller == 0) *caller = atomic_fetch_add(&callers, 1) % MOST_CALLERS + 1;
     if (!this_thread.is_counted) join_threads();
-    if ((calls & settings()->looks_seldom) == 0) look_at_records();
+    if (settings()->records > 0) look_at_records();
     return (struct nippersage_task){kernel, *caller, 1};
 }
 
@@ -141,40 +138,6 @@ int sleeping_instance(void) {
     QUIET;
     self();
     return sleeping;
-}
-
-/* Held while the history is written, so that a program that ends twice leaves a whole one. */
-static pthread_mutex_t writing = PTHREAD_MUTEX_INITIALIZER;
-
-static void write_history(void) {
-    const char *path = settings()->history;
-    int fd, status;
-    if (!path || !kernel) return;
-    fd = open(path, O_WRONLY | O_CREAT | O_TRUNC | O_CLOEXEC, 0666);
-    status = fd < 0 ? -errno : nippersage_history(kernel, fd);
-    if (fd >= 0 && close(fd) != 0 && status == 0) status = -errno;
-    if (status < 0) say("the history can't be written to %s: %s", path, strerror(-status));
-}
-
-void keep_history(void) {
-    if (is_outside) return;
-    QUIET;
-    pthread_mutex_lock(&writing);
-    write_history();
-    pthread_mutex_unlock(&writing);
-}
-
-/* A child has none. */
-void write_history_once(void) {
-    static bool is_written;
-    if (is_outside) return;
-    QUIET;
-    tell_what_came_again();
-    pthread_mutex_lock(&writing);
-    if (!is_written) hand_over();
-    if (!is_written) write_history();
-    is_written = true;
-    pthread_mutex_unlock(&writing);
 }
 
 __attribute__((constructor)) static void begin(void) {

@@ -85,8 +85,7 @@ void leave_stacks_below(uintptr_t target);
 
 struct settings {
     int first;                       /* NIPPERSAGE_REAL_DESCRIPTORS: so many numbers are real */
-    size_t records;                  /* NIPPERSAGE_RECORDS: the history may have fewer */
-    unsigned long looks_seldom;      /* a thread looks whether it has, if its calls have none of these bits */
+    uint64_t records;                /* NIPPERSAGE_RECORDS: the history may have fewer; 0 is no limit */
     uint64_t busy_waits;             /* NIPPERSAGE_BUSY_WAITS: so many take a millisecond; 0 is none */
     uint64_t patience;               /* NIPPERSAGE_PATIENCE, in milliseconds of real time */
     uint64_t child_time;             /* NIPPERSAGE_CHILD_TIME: so many times slower is a clock that a child holds */
@@ -146,11 +145,16 @@ struct forward {
 void find_forwards(void);
 /* One line on standard error. */
 void say(const char *format, ...) __attribute__((format(printf, 1, 2)));
-/* Writes the history as it is; the same, if it isn't written for the program's end yet. */
-void keep_history(void);
-void write_history_once(void);
 /* The instance in which nothing is ever registered: who waits there sleeps. */
 int sleeping_instance(void);
+
+/* ---- history.c: where the history goes ---- */
+
+/* Lets the history of a new kernel go to its file as it comes, or nowhere. */
+void begin_history(struct nippersage_kernel *kernel);
+/* Writes what has come by now. The same for the end of the program: what comes later isn't written. */
+void keep_history(void);
+void write_history_once(void);
 
 /* ---- lines.c: what is refused ---- */
 
@@ -233,6 +237,8 @@ void end_if_killed(void);
 void keep_history_before(int signal);
 /* Sends a signal that this thread has earned, as SIGPIPE. */
 void send_to_this_thread(int signal);
+/* write(2) of the real kernel, which sends no signal if it fails: its answer, or minus an error number. */
+long write_quietly(int fd, const void *bytes, size_t count);
 
 /* ---- sleepers.c: threads that sleep in waits, and who moves the clock ---- */
 

@@ -6,17 +6,12 @@
 #include <pthread.h>
 #include <stdio.h>
 #include <stdlib.h>
-#include <sys/resource.h>
 #include <sys/xattr.h>
 
 FORWARD(_exit)
-FORWARD(getrlimit)
-FORWARD(sysconf)
 FORWARD(write)
 
 #define MOST_RECORDS 1000000000000
-/* A record takes some 200 bytes, and a few calls of each thread may come before the next look at how many there are. */
-enum { RECORD_BYTES = 256, RECORDS_BY_CALLS = 12000000 };
 
 _Atomic(const struct settings *) read_settings;
 
@@ -107,21 +102,6 @@ static void read_limits(void) {
     }
 }
 
-/* As many as fill half of the machine's memory, or of the memory that the program may have. But ten million calls go
-   through on a small machine, too. */
-static size_t most_records(void) {
-    long pages = next_sysconf()(_SC_PHYS_PAGES), page = next_sysconf()(_SC_PAGESIZE);
-    size_t most = RECORDS_BY_CALLS, allowed;
-    struct rlimit limit;
-    if (pages > 0 && page > 0) {
-        size_t half = (size_t)pages / 2 * (size_t)page / RECORD_BYTES;
-        if (half > most) most = half;
-    }
-    if (next_getrlimit()(RLIMIT_AS, &limit) != 0 || limit.rlim_cur == RLIM_INFINITY) return most;
-    allowed = limit.rlim_cur / 2 / RECORD_BYTES;
-    return allowed < most ? allowed : most;
-}
-
 /* ---- files ---- */
 
 /* The path that a variable has, from the folder in which the program begins, for it may go to another one; or NULL. */
@@ -147,8 +127,7 @@ static void read_all(void) {
     values.busy_waits = whole_number("NIPPERSAGE_BUSY_WAITS", 0, MOST_RECORDS, values.busy_waits);
     values.patience = whole_number("NIPPERSAGE_PATIENCE", 0, MOST_RECORDS, values.patience);
     values.child_time = whole_number("NIPPERSAGE_CHILD_TIME", 0, 1000, values.child_time);
-    values.records = whole_number("NIPPERSAGE_RECORDS", 1, MOST_RECORDS, most_records());
-    values.looks_seldom = variable("NIPPERSAGE_RECORDS") ? 0 : 1023;
+    values.records = whole_number("NIPPERSAGE_RECORDS", 1, MOST_RECORDS, 0);
     atomic_store(&read_settings, &values);
 }
 

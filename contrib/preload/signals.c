@@ -364,6 +364,21 @@ void send_to_this_thread(int signal) {
     next_syscall()(SYS_tgkill, getpid(), next_syscall()(SYS_gettid), signal);
 }
 
+/* Two come of a write: to a pipe whose reader has gone, and to a file that is as large as it may be. One that waited
+   before is left. */
+long write_quietly(int fd, const void *bytes, size_t count) {
+    static const struct timespec none;
+    uint64_t own = BIT(SIGPIPE) | BIT(SIGXFSZ), before = 0, pending = 0;
+    long taken;
+    RAW(SYS_rt_sigprocmask, SIG_BLOCK, &own, &before, sizeof before);
+    if (before & own) RAW(SYS_rt_sigpending, &pending, sizeof pending);
+    own &= ~pending;
+    taken = RAW(SYS_write, fd, bytes, count);
+    if ((taken == -EPIPE || taken == -EFBIG) && own) RAW(SYS_rt_sigtimedwait, &own, NULL, &none, sizeof own);
+    RAW(SYS_rt_sigprocmask, SIG_SETMASK, &before, NULL, sizeof before);
+    return taken;
+}
+
 /* ---- waiting for a signal ---- */
 
 /* Sleeps until a handler has run. */

@@ -68,9 +68,10 @@ static void more_than_processes(void) {
     waitpid(last, NULL, 0);
 }
 
-/* The real limit has room for a few descriptors above those that the program can name. */
+/* The real limit has room for a few descriptors above those that the program can name. The first of them is that of the
+   history. */
 static void low_limit(void) {
-    struct rlimit limit = {1500, 1540};
+    struct rlimit limit = {1500, 1541};
     int ends[2], more[2];
     char byte = 'x';
     pid_t child;

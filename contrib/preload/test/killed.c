@@ -1,5 +1,5 @@
 /* A signal ends the program: that of an alarm, SIGPIPE, one from outside in a wait of two threads, or a fault.
-   Simulated only: check looks for its history, which a fault doesn't leave. */
+   Simulated only: check looks for its history. */
 #include <poll.h>
 #include <pthread.h>
 #include <signal.h>
