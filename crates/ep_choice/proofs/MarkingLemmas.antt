@@ -258,6 +258,13 @@ woke_else n p a b u w guards due is same counts none reached =
       no_more : (m k : ℕ) → m ≡ k → m ≤ 0 → k ≡ 0
       no_more m k e le = omega (arith, e, le)
 
+-- where nobody waits, nobody is due, and nobody is marked
+pub nobody_due : (p : Parts) → p.parked ≡ [] → p ≡ with_parked p (due_in p)
+nobody_due p none = ap (with_parked p) (none ∙ sym (ap (map (marked_if_due p.clock)) none))
+
+pub nobody_marked : (test : ℕ → Bool) (p : Parts) → p.parked ≡ [] → p.parked ≡ marked_by test p.clock p.parked
+nobody_marked test p none = subst (λ (ws : List Waiter). ws ≡ marked_by test p.clock ws) (sym none) refl
+
 pub none_lost : (xs : List ℕ) (n : ℕ) → n ≡ length xs → n ≤ 0 → xs ≡ []
 none_lost [] n e le = refl
 none_lost (x ∷ xs) n e le = absurd (omega (arith, e, le))

@@ -1,8 +1,9 @@
 //! Marks at the end of an event.
-ghost use Rattle.std.specs.Prelude.{◌≡◌, ◌<◌, [], map};
+ghost use Rattle.std.specs.Prelude.{◌≡◌, ◌<◌, [], filter, length, map, true};
 ghost use Rattle.ep_choice.specs.Marking.{AreLookedAt, Fits, IsNarrowed, due_in, gets_mark_key};
 ghost use Rattle.ep_choice.specs.Narrow.{Lasts};
 ghost use Rattle.ep_climb.specs.Reach.{AreReached, AreRoomy};
+ghost use Rattle.ep_interest.specs.Exclusive.{is_exclusive};
 ghost use Rattle.ep_machine.specs.Marks.{marked_by};
 
 use crate::choice::Choice;
@@ -50,6 +51,18 @@ fn wake<R: Readiness>(
     }
 }
 
+/// Whether the end of an event has nobody to mark and nothing to narrow: nobody waits, no registration is exclusive,
+/// and none was that is gone.
+#[inline(always)]
+fn is_idle(parts: &Parts, choice: &Choice) -> bool
+    ensures nobody { result ≡ true → parts.now.parked ≡ [] }
+    ensures plain { result ≡ true
+        → length (filter is_exclusive parts.now.interest.entries) ≡ 0 }
+    ensures unlost { result ≡ true → choice.now.lost.reached ≡ [] }
+{
+    parts.waiters.count() == 0 && parts.interest.guards() == 0 && choice.lost.count() == 0
+}
+
 /// Sets marks at the end of an event: whoever is due, and of those that wait at a ready instance the longest waiting
 /// one, if none is marked there, and if the event wakes the instance or no exclusive registration stands in it or
 /// beneath it. An event wakes what it reaches, where of the exclusive registrations on a target only one passes
@@ -57,7 +70,7 @@ fn wake<R: Readiness>(
 /// wakes `attend`, the instance at which an epoll_ctl raised IN, or that a caller left. Only those are looked at, and
 /// what has lost an exclusive registration, or one beneath it. Registrations pass on only what the event wakes then,
 /// and nothing is lost. It takes no memory. While no registration is exclusive, and none was, it looks only at what the
-/// event reached and at `attend`.
+/// event reached and at `attend`, and at nothing if nobody waits.
 #[inline(always)]
 pub fn mark_woken<R: Readiness>(
     parts: &mut Parts,
@@ -82,6 +95,9 @@ pub fn mark_woken<R: Readiness>(
     ensures knows { R.knows ready.new parts.new.tables parts.new.clock parts.new.interest }
 {
     parts.known();
+    if is_idle(parts, choice) {
+        return;
+    }
     mark_due(parts);
     if parts.interest.guards() > 0 {
         wake(parts, ready, reached, choice, step);

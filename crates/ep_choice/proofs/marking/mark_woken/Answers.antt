@@ -1,12 +1,22 @@
 use Rattle.std.proofs.Common.{◌≡◌, ◌∙◌, [], ap, filter, length, refl, subst, sym}
 use Rattle.ep_calls.specs.Parts.{Parts}
-use Rattle.ep_choice.proofs.MarkingLemmas.{Woke, above_no, marked_at_end, none_lost, still_narrowed, woke_else, woke_then}
+use Rattle.ep_choice.specs.Marking.{gets_mark_key}
+use Rattle.ep_choice.proofs.MarkingLemmas.{Woke, above_no, marked_at_end, nobody_due, nobody_marked, none_lost, none_narrowed, still_narrowed, woke_else, woke_then}
 use Rattle.ep_choice.specs.declared.choice.Choice.{Choice}
 use Rattle.ep_interest.specs.Exclusive.{is_exclusive}
 use Rattle.ep_nest.specs.Links.{edges}
 use Rattle.ep_walk.specs.Walk.{Walk}
 use Rattle.ep_choice.proofs.marking.mark_woken.Goals as goal
 use Rattle.ep_choice.proofs.marking.mark_woken.Goals.{else-guards-gt0, then-guards-gt0}
+
+-- where nobody waits, nobody is marked
+pub returns-then-is_idle-clause-marks : goal.returns-then-is_idle-clause-marks
+returns-then-is_idle-clause-marks g c = nobody_marked (gets_mark_key c.args.step c.args.parts.now c.args.attend) c.args.parts.now (c.is_idle.ensures.nobody c.if-is_idle.true)
+
+pub returns-then-is_idle-clause-narrowed : goal.returns-then-is_idle-clause-narrowed
+returns-then-is_idle-clause-narrowed g c =
+    let p = c.args.parts.now in
+    none_narrowed c.args.step p p (nobody_due p (c.is_idle.ensures.nobody c.if-is_idle.true)) (c.is_idle.ensures.plain c.if-is_idle.true)
 
 pub returns-then-count-gt0-clause-marks : goal.returns-then-count-gt0-clause-marks
 returns-then-count-gt0-clause-marks g c =
