@@ -8,8 +8,8 @@ ghost use Rattle.ep_due.specs.DueMap.{HasRoom, SameMoments};
 ghost use Rattle.ep_machine.specs.Files.{Files};
 
 use crate::alarms::Alarms;
-use ep_base::{Answer, Call, DescId, Event, EventNumber, Fd, Pid};
-use ep_calls::{Outcome, Parts, Raising};
+use ep_base::{Call, DescId, Event, EventNumber, Fd, Pid};
+use ep_calls::{Outcome, Parts, Raising, Reply};
 use ep_table::Tables;
 
 /// Does nothing. How many descriptor numbers there are at most; a fact for proofs.
@@ -38,15 +38,15 @@ impl Alarms {
     }
 
     /// Adds the timer that timerfd_create(2) created, if its answer is one.
-    fn add_created(&mut self, parts: &Parts, pid: Pid, answer: &Answer)
+    fn add_created(&mut self, parts: &Parts, pid: Pid, answer: &Reply)
         requires created { CreatesTimer answer.now parts.now pid.0 self.old }
         requires room { HasRoom self.old }
         ensures { AreSet parts.now.tables parts.now.clock self.new }
     {
-        let Answer::Num(number) = answer else {
+        let Some(number) = answer.number() else {
             return;
         };
-        if let Some(desc) = parts.tables.lookup(pid, Fd(*number as i32)) {
+        if let Some(desc) = parts.tables.lookup(pid, Fd(number as i32)) {
             self.add(&parts.tables, desc, parts.clock);
         }
     }

@@ -53,3 +53,4 @@ pub mod SparedLemmas
 pub mod LastLemmas
 pub mod AttendLemmas
 pub mod FileCallLemmas
+pub mod ReplyLemmas

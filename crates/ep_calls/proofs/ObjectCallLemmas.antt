@@ -7,7 +7,7 @@ use Rattle.std.proofs.lemmas.List.{set-get_or}
 use Rattle.std.proofs.lemmas.Option.{none-some}
 use Rattle.smallvec.specs.SmallVec.{HasRoomFor}
 use Rattle.smallvec.specs.declared.SmallVec.{SmallVec}
-use Rattle.ep_base.specs.Answer.{FitsInline}
+use Rattle.ep_calls.specs.Reply.{IsSettled}
 use Rattle.ep_base.specs.declared.answer.Answer.{Answer}
 use Rattle.ep_base.specs.declared.answer.Answer.TheVariants.{Bytes, Done, Events, Num, Refused, Time}
 use Rattle.ep_base.specs.declared.errno.Errno.{Errno}
@@ -45,20 +45,20 @@ fits x e now asked room h i =
     unless_fits (first (object_refusals x e now asked)) x (object_effect x e now asked) room
     (λ none. given_fits (object_effect x e now asked).0 (asked_of asked) (object_waiting x e) room (gives_few x e now asked none) h i)
 
--- a copy of few bytes takes no memory
-given_inline : (answer : Answer) (asked waiting : ℕ) → GivesAtMost (min asked (max 16 waiting)) answer → min asked waiting ≤ 16 → FitsInline answer
-given_inline (Bytes bytes) asked waiting few h = omega (arith, few, h)
-given_inline (Events reports) asked waiting few h = absurd few
-given_inline answer asked waiting few h = tt
+-- few bytes take no memory
+given_settled : (answer : Answer) (asked waiting : ℕ) → GivesAtMost (min asked (max 16 waiting)) answer → min asked waiting ≤ 16 → IsSettled answer
+given_settled (Bytes bytes) asked waiting few h = omega (arith, few, h)
+given_settled (Events reports) asked waiting few h = absurd few
+given_settled answer asked waiting few h = tt
 
-unless_inline : (refusal : Option Errno) (x : Object) (f : Effect Object) → (refusal ≡ None → FitsInline f.0) → FitsInline (unless refusal x f).0
-unless_inline (Some e) x f h = tt
-unless_inline None x f h = h refl
+unless_settled : (refusal : Option Errno) (x : Object) (f : Effect Object) → (refusal ≡ None → IsSettled f.0) → IsSettled (unless refusal x f).0
+unless_settled (Some e) x f h = tt
+unless_settled None x f h = h refl
 
-pub fits_inline : (x : Object) (e : End) (now : ℕ) (asked : ObjectCall) → min (asked_of asked) (object_waiting x e) ≤ 16 → FitsInline (attempt (object_refusals x e now asked) x (object_effect x e now asked)).0
-fits_inline x e now asked h =
-    unless_inline (first (object_refusals x e now asked)) x (object_effect x e now asked)
-    (λ none. given_inline (object_effect x e now asked).0 (asked_of asked) (object_waiting x e) (gives_few x e now asked none) h)
+pub fits_settled : (x : Object) (e : End) (now : ℕ) (asked : ObjectCall) → min (asked_of asked) (object_waiting x e) ≤ 16 → IsSettled (attempt (object_refusals x e now asked) x (object_effect x e now asked)).0
+fits_settled x e now asked h =
+    unless_settled (first (object_refusals x e now asked)) x (object_effect x e now asked)
+    (λ none. given_settled (object_effect x e now asked).0 (asked_of asked) (object_waiting x e) (gives_few x e now asked none) h)
 
 -- writing back what stands there changes nothing
 set_same : (xs : List (Option Object)) (k : ℕ) (x : Object) → slice_index_or xs k None ≡ Some x → slice_set xs k (Some x) ≡ xs

@@ -1,5 +1,6 @@
 pub mod Acts
 pub mod KeptRecords
+pub mod Reply
 pub mod Kept
 pub mod Stands
 pub mod Parts

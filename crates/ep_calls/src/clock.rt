@@ -18,9 +18,9 @@ impl Parts {
     {
         let since = self.clock;
         let Some(now) = since.later(n) else {
-            return Outcome::refused(self.alloc, Errno::Einval);
+            return Outcome::refused(Errno::Einval);
         };
         self.clock = now;
-        Outcome::settled(self.alloc, Answer::Done, Raising::Clock { since })
+        Outcome::settled(Answer::Done, Raising::Clock { since })
     }
 }

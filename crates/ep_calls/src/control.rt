@@ -1,10 +1,10 @@
 //! epoll_ctl.
 ghost use Rattle.std.specs.Prelude.{All, Bool, ◌≡◌, ◌≢◌, ◌==◌, ◌+◌, ◌++◌, ◌∷◌, ◌≤◌, ◌||◌, ℕ, [], if◌then◌else◌, IfErr, IfNone, IfOk, IfSome, IsOk, IsSome, MatchResult, None, OnErr, Some, false, length, not, true, unwrap_or};
 ghost use Rattle.std.specs.List.{list_any};
-ghost use Rattle.ep_base.specs.Answer.{FitsInline};
 ghost use Rattle.ep_base.specs.declared.answer.Answer.TheVariants.{Done};
 ghost use Rattle.ep_machine.specs.Bits.{exclusive_bits, has_only};
 ghost use Rattle.ep_machine.specs.Effect.{first};
+ghost use Rattle.ep_calls.specs.Reply.{IsSettled};
 ghost use Rattle.ep_calls.specs.Acts.{is_no_memory};
 ghost use Rattle.ep_machine.specs.Watches.{is_add, is_legal, is_mod};
 ghost use Rattle.ep_nest.specs.Links.{edges, without};
@@ -196,7 +196,7 @@ fn alter(
     ensures alters { Alters operation (unwrap_or (number_of_entry interest.old id) 0) args.mask
         args.tag interest.old interest.new result }
     ensures nested { KeepsLinks interest.old graph.old interest.new graph.new }
-    ensures inline { FitsInline result }
+    ensures settled { IsSettled result }
     ensures real { is_no_memory result ≡ false }
     ensures added { interest.new.added ≡ interest.old.added }
     ensures changes { (named : Named)
@@ -330,7 +330,7 @@ fn enter(
         (λ answer. ChangesIf answer plan.operation None plan.named args interest.old
         interest.new) }
     ensures nested { AreNested tables.now interest.new graph.new }
-    ensures inline { IfOk result FitsInline }
+    ensures settled { IfOk result IsSettled }
     ensures real { IfOk result (λ answer. is_no_memory answer ≡ false) }
     ensures last { OnErr result
         ((exclusive : Bool) → first (room_refusals (is_add (code_of plan.operation))
@@ -414,7 +414,7 @@ impl Parts {
     /// What epoll_ctl comes to with an answer: if it is done, the registration that is left is looked at.
     #[inline(always)]
     fn controlled(&self, left: Left, answer: Answer) -> Outcome
-        requires inline { FitsInline answer }
+        requires settled { IsSettled answer }
         requires real { is_no_memory answer ≡ false }
         requires found { is_done answer ≡ true
             → IsFound self.now.interest left.named left.fd left.id }
@@ -431,7 +431,7 @@ impl Parts {
             Answer::Done => look_at(&self.tables, self.clock, &self.interest, left),
             _ => Raising::Nowhere,
         };
-        Outcome::settled(self.alloc, answer, raising)
+        Outcome::settled(answer, raising)
     }
 
     /// What an epoll_ctl with these arguments is about. If they alone refuse it, its outcome, by the refusal that
@@ -452,10 +452,10 @@ impl Parts {
         self.tables.known();
         let named = match find_named(&self.tables, pid, args.epfd, args.fd) {
             Ok(named) => named,
-            Err(errno) => return Err(Outcome::refused(self.alloc, errno)),
+            Err(errno) => return Err(Outcome::refused(errno)),
         };
         let Some(operation) = operation_of(&self.tables, named.desc, args) else {
-            return Err(Outcome::refused(self.alloc, Errno::Einval));
+            return Err(Outcome::refused(Errno::Einval));
         };
         let found = self.interest.find(named.instance, args.fd, named.desc);
         Ok(Plan {

@@ -51,7 +51,7 @@ impl Parts {
             return self.table_call(pid, call, has_room);
         };
         let Some(desc) = self.tables.lookup(pid, fd) else {
-            return Ok(Outcome::refused(self.alloc, Errno::Ebadf));
+            return Ok(Outcome::refused(Errno::Ebadf));
         };
         self.tables.known();
         if is_long(&self.tables, desc, &asked) {
@@ -59,6 +59,6 @@ impl Parts {
         }
         let (answer, raised) = self.tables.apply(desc, self.clock, &asked)?;
         let raising = Raising::Object { desc, raised };
-        Ok(Outcome::settled(self.alloc, answer, raising))
+        Ok(Outcome::settled(answer, raising))
     }
 }

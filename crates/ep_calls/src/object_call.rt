@@ -8,7 +8,9 @@ ghost use Rattle.ep_table.specs.Value.{number_under};
 ghost use Rattle.smallvec.specs.SmallVec.{HasRoomFor};
 
 use crate::copies::Copies;
+use crate::picks::Picks;
 use crate::raising::Raising;
+use crate::reply::Reply;
 use crate::{Outcome, Parts, Spare};
 use ep_base::{Answer, Bytes, DescId, Picked};
 use ep_object::ObjectCall;
@@ -134,6 +136,7 @@ fn rooms_for(
 }
 
 /// What a call came to, with copies of its answer in the rooms that were made for them.
+#[tactic(auto, using(crate::proofs::ReplyLemmas::room_silent))]
 fn outcome_of(alloc: Global, answer: Answer, rooms: Rooms, kept: bool, raising: Raising) -> Outcome
     requires empty { rooms.room.items ≡ [] }
     requires fits { FitsRoom answer rooms.room }
@@ -153,7 +156,7 @@ fn outcome_of(alloc: Global, answer: Answer, rooms: Rooms, kept: bool, raising: 
     let recorded = answer_copy(&answer, room);
     let spare = spare_of(alloc, &answer, more, kept);
     let _ = Box::replace(&mut place, Copies { recorded, spare });
-    Outcome::new(answer, Picked::empty(alloc), Some(place), raising)
+    Outcome::new(Reply::of(answer), Picks::none(), Some(place), raising)
 }
 
 impl Parts {

@@ -1,27 +1,29 @@
 //! What an event came to.
 ghost use Rattle.std.specs.Prelude.{◌≡◌, ◌+◌, ◌<◌, ◌≤◌, ◌++◌, ◌∷◌, [], None, false, true};
 ghost use Rattle.std.specs.Option.{ForSome};
-ghost use Rattle.ep_base.specs.Answer.{FitsInline};
 ghost use Rattle.ep_base.specs.declared.answer.Answer.TheVariants.{Refused as refused};
 ghost use Rattle.ep_calls.specs.Acts.{is_no_memory};
 ghost use Rattle.ep_calls.specs.KeptRecords.{AreCopies, HasCopy, IsCopied, IsInline, IsInlineWithout, inline_prop, spare_in};
+ghost use Rattle.ep_calls.specs.Reply.{IsSettled};
 ghost use Rattle.ep_calls.specs.declared.raising.Raising.TheVariants.{Nowhere};
 
 use crate::copies::Copies;
+use crate::picks::Picks;
 use crate::raising::Raising;
+use crate::reply::Reply;
 use crate::spare::Spare;
-use ep_base::{Answer, CallerId, Errno, Event, Picked, Record};
+use ep_base::{Answer, CallerId, Errno, Event, Record};
 use ep_records::History;
 use std::alloc::Global;
 
 /// What an event came to: its answer, which is never want of memory, the registrations that it reports, and what it
-/// raised.
+/// raised. It is handed on by value from layer to layer, so it is kept small.
 #[derive(Drop)]
 pub struct Outcome {
     /// The answer for the caller.
-    pub answer: Answer,
+    pub answer: Reply,
     /// The numbers of the registrations that the answer reports, in its order.
-    pub picked: Picked,
+    pub picked: Picks,
     /// The copies of the answer that take memory. `None` if a copy takes none.
     pub copies: Option<Box<Copies>>,
     /// What the event raised, at which descriptions.
@@ -32,37 +34,40 @@ pub struct Outcome {
     ghost real: { is_no_memory answer ≡ false },
 }
 
+const _: () = prove!(size_of::<Outcome>() == 96);
+
 impl Outcome {
     /// A refusal.
     #[inline(always)]
-    pub fn refused(alloc: Global, errno: Errno) -> Outcome
+    pub fn refused(errno: Errno) -> Outcome
         requires { is_no_memory (refused errno) ≡ false }
         ensures answer { result.answer ≡ refused errno }
         ensures picked { result.picked ≡ [] }
         ensures inline { IsInline result.answer result.picked }
         ensures raising { result.raising ≡ Nowhere }
     {
-        Outcome::settled(alloc, Answer::Refused(errno), Raising::Nowhere)
+        Outcome::settled(Answer::Refused(errno), Raising::Nowhere)
     }
 
     /// An answer that takes no memory to copy, and reports nothing.
     #[inline(always)]
-    pub fn settled(alloc: Global, answer: Answer, raising: Raising) -> Outcome
-        requires inline { FitsInline answer }
+    #[tactic(auto, using(crate::proofs::ReplyLemmas::settled_inline, crate::proofs::ReplyLemmas::settled_silent))]
+    pub fn settled(answer: Answer, raising: Raising) -> Outcome
+        requires settled { IsSettled answer }
         requires real { is_no_memory answer ≡ false }
         ensures answer { result.answer ≡ answer }
         ensures picked { result.picked ≡ [] }
         ensures inline { IsInline result.answer result.picked }
         ensures raising { result.raising ≡ raising }
     {
-        Outcome::new(answer, Picked::empty(alloc), None, raising)
+        Outcome::new(Reply::of(answer), Picks::none(), None, raising)
     }
 
     /// An answer that reports these registrations, and the copies of it that take memory.
     #[inline(always)]
     pub fn new(
-        answer: Answer,
-        picked: Picked,
+        answer: Reply,
+        picked: Picks,
         copies: Option<Box<Copies>>,
         raising: Raising,
     ) -> Outcome
@@ -86,6 +91,7 @@ impl Outcome {
     #[inline(always)]
     pub fn put_record(
         self,
+        alloc: Global,
         history: &mut History,
         caller: CallerId,
         event: Event,
@@ -106,51 +112,33 @@ impl Outcome {
         ensures taken { history.new.taken ≡ history.old.taken }
     {
         if kept {
-            let (answer, spare) = self.put_twice(history, caller, event);
+            let (answer, spare) = self.put_twice(alloc, history, caller, event);
             return (answer, Some(spare));
         }
-        if history.push_short(caller, &event, &self.answer, self.picked.as_slice()) {
-            return (self.answer, None);
-        }
-        (self.put_long(history, caller, event), None)
-    }
-
-    /// The same of a record that isn't short, if no second one is asked for.
-    #[inline(never)]
-    fn put_long(self, history: &mut History, caller: CallerId, event: Event) -> Answer
-        requires { 0 < history.old.room }
-        ensures answer { result ≡ self.answer }
-        ensures items { history.new.items ≡ history.old.items ++ record {
-          caller = caller;
-          event = event;
-          answer = self.answer;
-          picked = self.picked;
-        } ∷ [] }
-        ensures room { history.old.room ≤ history.new.room + 1 }
-        ensures taken { history.new.taken ≡ history.old.taken }
-    {
         let Outcome {
             answer,
             picked,
             copies,
             ..
         } = self;
-        let recorded = match copies {
-            None => answer.copy().unwrap(),
-            Some(made) => Box::into_inner(made).recorded,
-        };
-        history.push_long(Record {
-            caller,
-            event,
-            answer: recorded,
-            picked,
-        });
-        answer
+        let answer = answer.into_answer(alloc);
+        if history.push_short(caller, &event, &answer, picked.as_slice()) {
+            return (answer, None);
+        }
+        let rest = Rest { picked, copies };
+        rest.put_whole(alloc, history, caller, event, &answer);
+        (answer, None)
     }
 
     /// The same if a second record is asked for.
     #[inline(never)]
-    fn put_twice(self, history: &mut History, caller: CallerId, event: Event) -> (Answer, Spare)
+    fn put_twice(
+        self,
+        alloc: Global,
+        history: &mut History,
+        caller: CallerId,
+        event: Event,
+    ) -> (Answer, Spare)
         requires inline { spare_in self.copies ≡ None → IsInline self.answer self.picked }
         requires room { 0 < history.old.room }
         ensures answer { result.0 ≡ self.answer }
@@ -171,6 +159,7 @@ impl Outcome {
             copies,
             ..
         } = self;
+        let (answer, picked) = (answer.into_answer(alloc), picked.into_picked(alloc));
         let (recorded, spare) = match copies {
             None => (answer.copy().unwrap(), None),
             Some(made) => {
@@ -186,5 +175,51 @@ impl Outcome {
             picked,
         });
         (answer, spare)
+    }
+}
+
+/// What is left of an outcome once its answer is taken out.
+#[derive(Drop)]
+struct Rest {
+    picked: Picks,
+    copies: Option<Box<Copies>>,
+}
+
+impl Rest {
+    /// Puts the record of an event that isn't short at the end of a history that has room for it. It stands apart from
+    /// the ways of short ones, since whatever a function names it clears, also if it goes another way.
+    #[cold]
+    #[inline(never)]
+    fn put_whole(
+        self,
+        alloc: Global,
+        history: &mut History,
+        caller: CallerId,
+        event: Event,
+        answer: &Answer,
+    )
+        requires inline { IsInlineWithout self.copies answer.now }
+        requires recorded { ForSome self.copies (λ made. made.value.recorded ≡ answer.now) }
+        requires room { 0 < history.old.room }
+        ensures items { history.new.items ≡ history.old.items ++ record {
+          caller = caller;
+          event = event;
+          answer = answer.now;
+          picked = self.picked;
+        } ∷ [] }
+        ensures room { history.old.room ≤ history.new.room + 1 }
+        ensures taken { history.new.taken ≡ history.old.taken }
+    {
+        let Rest { picked, copies } = self;
+        let recorded = match copies {
+            None => answer.copy().unwrap(),
+            Some(made) => Box::into_inner(made).recorded,
+        };
+        history.push_long(Record {
+            caller,
+            event,
+            answer: recorded,
+            picked: picked.into_picked(alloc),
+        });
     }
 }

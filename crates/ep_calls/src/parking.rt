@@ -102,7 +102,7 @@ impl Parts {
         self.tables.known();
         if chosen.is_empty() && !is_due(waiter, self.clock) {
             self.waiters.unmark(caller);
-            return Ok(Outcome::settled(self.alloc, Answer::Still, Raising::Nowhere));
+            return Ok(Outcome::settled(Answer::Still, Raising::Nowhere));
         }
         let outcome = report(self.alloc, &mut self.interest, step, chosen, kept);
         if outcome.is_ok() {

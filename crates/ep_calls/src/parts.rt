@@ -54,6 +54,11 @@ impl Parts {
         })
     }
 
+    /// What memory is asked of.
+    pub fn allocator(&self) -> Global {
+        self.alloc
+    }
+
     /// Does nothing. What holds of the parts between calls; a fact for proofs.
     pub fn known(&self)
         ensures coherent { AreCoherent self.now }

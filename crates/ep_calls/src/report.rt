@@ -3,13 +3,15 @@ ghost use Rattle.std.specs.Prelude.{◌≡◌, All, IfOk, None, OnErr, Some, map
 ghost use Rattle.ep_base.specs.declared.answer.Answer.TheVariants.{Events};
 ghost use Rattle.ep_interest.specs.Registrations.{number_under as number_of_entry};
 ghost use Rattle.ep_calls.specs.Kept.{IsKept};
-ghost use Rattle.ep_calls.specs.KeptRecords.{AreCopies, spare_in};
+ghost use Rattle.ep_calls.specs.KeptRecords.{AreCopies, IsInline, spare_in};
 ghost use Rattle.ep_calls.specs.Reports.{Reports};
 ghost use Rattle.ep_calls.specs.Wait.{with_report, numbers_of, report_of};
 ghost use Rattle.ep_calls.specs.declared.raising.Raising.TheVariants.{Nowhere};
 
 use crate::copies::Copies;
+use crate::picks::Picks;
 use crate::raising::Raising;
+use crate::reply::Reply;
 use crate::wait::Reportable;
 use crate::{Outcome, Spare};
 use ep_base::{Answer, EventNumber, Picked, Report, Reports as ReportList};
@@ -20,23 +22,28 @@ use std::alloc::{AllocError, Global};
 /// As many reports as take no memory.
 const INLINE: usize = 4;
 
+/// What is reported of a registration.
+fn report_of(x: &Reportable) -> Report
+    ensures { result ≡ report_of x.now }
+{
+    Report {
+        bits: x.bits,
+        tag: x.entry.tag,
+    }
+}
+
 /// What is reported of them.
-#[inline(always)]
 fn reports_of(alloc: Global, chosen: &[Reportable]) -> Result<ReportList, AllocError>
     ensures { IfOk result (λ reports. reports ≡ map report_of chosen.now) }
 {
     let mut reports = SmallVec::with_capacity(alloc, chosen.len())?;
     for x in chosen {
-        reports.push_reserved(Report {
-            bits: x.bits,
-            tag: x.entry.tag,
-        });
+        reports.push_reserved(report_of(x));
     }
     Ok(ReportList::new(reports))
 }
 
 /// Their numbers.
-#[inline(always)]
 fn picked_of(alloc: Global, chosen: &[Reportable]) -> Result<Picked, AllocError>
     ensures { IfOk result (λ picked. picked ≡ numbers_of chosen.now) }
 {
@@ -86,6 +93,63 @@ fn copies_of(
     Ok(Box::new(alloc, Copies { recorded, spare })?)
 }
 
+/// What a wait answers, by whom, and what is copied of it.
+#[derive(Drop)]
+struct Told {
+    answer: Reply,
+    picked: Picks,
+    copies: Option<Box<Copies>>,
+}
+
+/// What is told of several.
+#[inline(never)]
+fn told_of_many(alloc: Global, chosen: &[Reportable], kept: bool) -> Result<Told, AllocError>
+    ensures answer { IfOk result (λ told. told.answer ≡ Events (map report_of chosen.now)) }
+    ensures picked { IfOk result (λ told. told.picked ≡ numbers_of chosen.now) }
+    ensures copied { IfOk result (λ told. AreCopies told.copies told.answer told.picked) }
+    ensures kept { IfOk result (λ told. kept ≡ true → spare_in told.copies ≡ None
+        → IsInline told.answer told.picked) }
+{
+    let reports = reports_of(alloc, chosen)?;
+    let picked = picked_of(alloc, chosen)?;
+    let copies = if chosen.len() > INLINE {
+        Some(copies_of(alloc, &reports, &picked, kept)?)
+    } else {
+        None
+    };
+    Ok(Told {
+        answer: Reply::many(Box::new(alloc, reports)?),
+        picked: Picks::many(Box::new(alloc, picked)?),
+        copies,
+    })
+}
+
+/// What is told of them. One report takes no memory. `kept`: a second record of it is asked for.
+#[inline(always)]
+fn told_of(alloc: Global, chosen: &[Reportable], kept: bool) -> Result<Told, AllocError>
+    ensures answer { IfOk result (λ told. told.answer ≡ Events (map report_of chosen.now)) }
+    ensures picked { IfOk result (λ told. told.picked ≡ numbers_of chosen.now) }
+    ensures copied { IfOk result (λ told. AreCopies told.copies told.answer told.picked) }
+    ensures kept { IfOk result (λ told. kept ≡ true → spare_in told.copies ≡ None
+        → IsInline told.answer told.picked) }
+{
+    if chosen.len() > 1 {
+        return told_of_many(alloc, chosen, kept);
+    }
+    let (answer, picked) = match chosen.first() {
+        Some(x) => (Reply::one(report_of(x)), Picks::one(x.entry.number)),
+        None => (
+            Reply::of(Answer::Events(ReportList::empty(alloc))),
+            Picks::none(),
+        ),
+    };
+    Ok(Told {
+        answer,
+        picked,
+        copies: None,
+    })
+}
+
 /// Reports them, and notes that it did. `kept`: a second record of it is asked for.
 /// An `Err` is want of memory and leaves the registrations.
 #[inline(always)]
@@ -105,14 +169,7 @@ pub fn report(
     ensures raising { IfOk result (λ outcome. outcome.raising ≡ Nowhere) }
     ensures err { OnErr result (interest.new ≡ interest.old) }
 {
-    let reports = reports_of(alloc, chosen)?;
-    let picked = picked_of(alloc, chosen)?;
-    let copies = if chosen.len() > INLINE {
-        Some(copies_of(alloc, &reports, &picked, kept)?)
-    } else {
-        None
-    };
+    let told = told_of(alloc, chosen, kept)?;
     note(interest, step, chosen);
-    let answer = Answer::Events(reports);
-    Ok(Outcome::new(answer, picked, copies, Raising::Nowhere))
+    Ok(Outcome::new(told.answer, told.picked, told.copies, Raising::Nowhere))
 }

@@ -163,6 +163,6 @@ impl Parts {
             call,
             has_room,
         )?;
-        Ok(Outcome::settled(self.alloc, answer, Raising::Nowhere))
+        Ok(Outcome::settled(answer, Raising::Nowhere))
     }
 }

@@ -120,7 +120,7 @@ impl Parts {
                 marked: false,
             };
             park(&mut self.tables, &mut self.waiters, caller, waiter)?;
-            Ok(Outcome::settled(self.alloc, Answer::Parked, Raising::Nowhere))
+            Ok(Outcome::settled(Answer::Parked, Raising::Nowhere))
         }
     }
 }

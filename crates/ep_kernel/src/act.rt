@@ -112,10 +112,10 @@ pub fn act(
     match event {
         Event::Call { pid, call } => {
             if !parts.tables.has_process(*pid) {
-                return Ok(Outcome::refused(parts.alloc, Errno::Esrch));
+                return Ok(Outcome::refused(Errno::Esrch));
             }
             if parts.waiters.is_parked(request.caller) {
-                return Ok(Outcome::refused(parts.alloc, Errno::Ebusy));
+                return Ok(Outcome::refused(Errno::Ebusy));
             }
             make_call(parts, beside, request, *pid, call)
         }

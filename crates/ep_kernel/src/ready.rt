@@ -178,6 +178,7 @@ impl ReadyKernel {
             (self.new.book ≡ record self.old.book { capacity = self.new.book.capacity }) }
         ensures err_lists { OnErr result (self.new.lists ≡ self.old.lists) }
     {
+        let alloc = self.parts.allocator();
         self.history.reserve(1)?;
         let has_room = self.alarms.make_room(&event);
         let step = self.history.next_number();
@@ -206,7 +207,7 @@ impl ReadyKernel {
         self.beside.lists.known();
         let attended = attend(left(&self.parts, caller, resumed), raising);
         rest(&mut self.parts, &mut self.beside, attended, step);
-        let (answer, spare) = outcome.put_record(&mut self.history, caller, event, kept);
+        let (answer, spare) = outcome.put_record(alloc, &mut self.history, caller, event, kept);
         Ok((answer, spare))
     }
 

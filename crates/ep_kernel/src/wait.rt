@@ -59,7 +59,7 @@ pub fn epoll_wait(
     let wanted = args;
     let instance = match find_instance(&parts.tables, wanted) {
         Ok(instance) => instance,
-        Err(errno) => return Ok(Outcome::refused(parts.alloc, errno)),
+        Err(errno) => return Ok(Outcome::refused(errno)),
     };
     parts.known();
     parts.interest.known();
@@ -108,10 +108,10 @@ pub fn resume(
     ensures err { OnErr result (StaysBeside parts.old beside.old parts.new beside.new) }
 {
     let Some(waiter) = parts.waiters.waiter(caller) else {
-        return Ok(Outcome::refused(parts.alloc, Errno::Einval));
+        return Ok(Outcome::refused(Errno::Einval));
     };
     if !waiter.marked {
-        return Ok(Outcome::settled(parts.alloc, Answer::Still, Raising::Nowhere));
+        return Ok(Outcome::settled(Answer::Still, Raising::Nowhere));
     }
     parts.known();
     parts.interest.known();

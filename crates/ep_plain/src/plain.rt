@@ -133,6 +133,7 @@ impl PlainKernel {
             → IsUnrefused self.old.limits caller event (state_of self.old)) }
         ensures err { OnErr result (self.new ≡ record self.old { capacity = self.new.capacity }) }
     {
+        let alloc = self.parts.allocator();
         self.history.reserve(1)?;
         let has_room = self.alarms.make_room(&event);
         let step = self.history.next_number();
@@ -149,7 +150,7 @@ impl PlainKernel {
         self.alarms
             .follow(&self.parts, &event, called, &outcome, has_room);
         let raising = outcome.raising;
-        let (answer, spare) = outcome.put_record(&mut self.history, caller, event, kept);
+        let (answer, spare) = outcome.put_record(alloc, &mut self.history, caller, event, kept);
         // A copy, since the prover takes what is passed on as moved.
         let raised = raising;
         spread(

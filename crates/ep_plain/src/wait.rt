@@ -46,7 +46,7 @@ pub fn epoll_wait(
     let asked = args;
     let instance = match find_instance(&parts.tables, asked) {
         Ok(instance) => instance,
-        Err(errno) => return Ok(Outcome::refused(parts.alloc, errno)),
+        Err(errno) => return Ok(Outcome::refused(errno)),
     };
     parts.tables.known();
     let chosen = choose(parts, &dating.dates, instance, args.max)?;
@@ -71,10 +71,10 @@ pub fn resume(parts: &mut Parts, request: Request, dating: &Dating) -> Result<Ou
     ensures err { OnErr result (parts.new ≡ parts.old) }
 {
     let Some(waiter) = parts.waiters.waiter(request.caller) else {
-        return Ok(Outcome::refused(parts.alloc, Errno::Einval));
+        return Ok(Outcome::refused(Errno::Einval));
     };
     if !waiter.marked {
-        return Ok(Outcome::settled(parts.alloc, Answer::Still, Raising::Nowhere));
+        return Ok(Outcome::settled(Answer::Still, Raising::Nowhere));
     }
     parts.tables.known();
     let chosen = choose(parts, &dating.dates, waiter.instance, waiter.max)?;

@@ -1,6 +1,6 @@
 use Rattle.std.proofs.Common.{◌≡◌, ◌∙◌, IsSome, Option, ap, subst, sym, ℕ}
 use Rattle.std.proofs.lemmas.Result.{IfOk-weaker}
-use Rattle.ep_base.specs.Answer.{FitsInline}
+use Rattle.ep_calls.specs.Reply.{IsSettled}
 use Rattle.ep_base.specs.declared.ids.DescId.{DescId}
 use Rattle.ep_base.specs.declared.ids.Fd.{Fd}
 use Rattle.ep_base.specs.declared.object.Raised.{Raised}
@@ -10,19 +10,19 @@ use Rattle.ep_calls.specs.ObjectCall.{AppliesAt, CallsObject}
 use Rattle.ep_calls.specs.Parts.{AreCoherent, Parts}
 use Rattle.ep_calls.specs.declared.outcome.Outcome.{Outcome}
 use Rattle.ep_calls.specs.declared.raising.Raising.TheVariants.{Object as AtObject}
-use Rattle.ep_calls.proofs.ObjectCallLemmas.{fits_inline}
+use Rattle.ep_calls.proofs.ObjectCallLemmas.{fits_settled}
 use Rattle.ep_calls.proofs.ObjectLemmas.{applied_calls, applied_coherent, applied_does}
 use Rattle.ep_machine.specs.Files.{side_of, under}
 use Rattle.ep_machine.specs.Objects.{ObjectCall, object_call}
 use Rattle.ep_table.specs.Value.{Sound, content_of, number_of, number_under}
 use Rattle.ep_calls.proofs.parts.Parts.file_call.Goals as goal
 
-pub settled-requires-clause-inline : goal.settled-requires-clause-inline
-settled-requires-clause-inline c =
+pub settled-requires-clause-settled : goal.settled-requires-clause-settled
+settled-requires-clause-settled c =
     let v = c.self.inside.tables in
     let d = number_of v c.in-Some-lookup.desc in
-    subst FitsInline (sym c.in_ok-answer.ensures.answer)
-    (fits_inline (content_of v.files d) (side_of v.files d) c.self.inside.clock c.in-Some.asked c.if-is_long.ensures)
+    subst IsSettled (sym c.in_ok-answer.ensures.answer)
+    (fits_settled (content_of v.files d) (side_of v.files d) c.self.inside.clock c.in-Some.asked c.if-is_long.ensures)
 
 pub invariant_of-self-2 : goal.invariant_of-self-2
 invariant_of-self-2 c =
