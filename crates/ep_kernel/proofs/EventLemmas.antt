@@ -58,10 +58,10 @@ pub leaves_widened : (event : Event) (p q : Parts) (b c : Beside) → c.choice.l
 leaves_widened event p q b c kept hopes room loses = record { hopes = hopes; room = room; lost = subst (NotesLost p q b.choice.lost.reached) (sym kept) (loses b.choice.lost.reached) }
 
 -- where some are reported
-pub leaves_reported : (event : Event) (p q : Parts) (b : Beside) (m : Lists) (a : Asked) (n : ℕ) (ks : List ℕ) → q.interest.keys ≡ p.interest.keys → q.interest.entries ≡ map (with_report n ks) p.interest.entries → StandsBeside p b → HopesFor p a.hopes → AlteredStand event p q a.hopes
-    → LeavesBeside event p b q (record b { lists = m; asked = a })
-leaves_reported event p q b m a n ks keys entries stands hopes altered =
-    leaves_by event p q b (record b { lists = m; asked = a }) refl refl stands.room (hopes_kept event p q a.hopes hopes (places_reported p q a.hopes n ks keys entries hopes.places) altered) (suits_reported p q n ks entries keys) (loses_reported p q n ks entries)
+pub leaves_reported : (event : Event) (p q : Parts) (b c : Beside) (n : ℕ) (ks : List ℕ) → c.reached ≡ b.reached → c.choice ≡ b.choice → q.interest.keys ≡ p.interest.keys → q.interest.entries ≡ map (with_report n ks) p.interest.entries → StandsBeside p b → HopesFor p c.asked.hopes
+    → AlteredStand event p q c.asked.hopes → LeavesBeside event p b q c
+leaves_reported event p q b c n ks reached choice keys entries stands hopes altered =
+    leaves_by event p q b c reached choice stands.room (hopes_kept event p q c.asked.hopes hopes (places_reported p q c.asked.hopes n ks keys entries hopes.places) altered) (suits_reported p q n ks entries keys) (loses_reported p q n ks entries)
 
 -- whatever was asked before
 pub leaves_asked : (event : Event) (p q : Parts) (b c : Beside) (a : Asked) → LeavesBeside event p (record b { asked = a }) q c → LeavesBeside event p b q c

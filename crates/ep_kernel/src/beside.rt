@@ -9,7 +9,7 @@ ghost use Rattle.ep_ready.specs.ReadyLists.{GainsPlace, LosesPlace, Same, empty,
 
 use crate::asked::Asked;
 use ep_base::{DescId, EntryId, Mask};
-use ep_calls::{Named, Raising};
+use ep_calls::{Named, Raising, Reportable};
 use ep_choice::Choice;
 use ep_interest::Interest;
 use ep_ready::ReadyLists;
@@ -29,6 +29,8 @@ pub struct Beside {
     pub reached: Walk<Global>,
     /// What chooses among exclusive registrations.
     pub choice: Choice,
+    /// What a wait chose. It says nothing once the wait is over, but keeps its room for the next one.
+    pub chosen: Vec<Reportable>,
 }
 
 /// Takes the place of a registration away, if it has one.
@@ -68,6 +70,7 @@ impl Beside {
             asked: Asked::new(alloc),
             reached: Walk::new(alloc),
             choice: Choice::new(alloc),
+            chosen: Vec::new(alloc),
         }
     }
 

@@ -13,15 +13,6 @@ use ep_calls::{Parts, Reportable, is_reportable};
 use ep_ready::ReadyLists;
 use std::alloc::AllocError;
 
-/// What a wait finds on a ready list: what it reports, and how many places it looked at.
-#[derive(Drop)]
-pub struct Found {
-    /// What the wait reports, in the order of the list.
-    pub reportables: Vec<Reportable>,
-    /// How many places of the list it looked at.
-    pub walked: usize,
-}
-
 /// The registration under a key with the bits that it shows, where it is reportable.
 fn reportable_at(parts: &Parts, asked: &mut Asked, id: EntryId) -> Option<Reportable>
     requires { Knows parts.now asked.old }
@@ -45,38 +36,36 @@ fn reportable_at(parts: &Parts, asked: &mut Asked, id: EntryId) -> Option<Report
     })
 }
 
-/// The first reportable registrations on the list of an instance, at most so many. An `Err` is want of memory. Only
-/// the places up to the last of them are looked at, and where one watches an instance, the hopes of the instances below
-/// up to the first that is reportable. Each of these instances is asked once, under however many numbers it is watched,
-/// since its answer is noted. All that is reportable stays among the hopes, whatever the result.
+/// Finds the first reportable registrations on the list of an instance, at most so many, which are `chosen` then, and
+/// answers how many places of the list it looked at. An `Err` is want of memory. Only the places up to the last of them
+/// are looked at, and where one watches an instance, the hopes of the instances below up to the first that is
+/// reportable. Each of these instances is asked once, under however many numbers it is watched, since its answer is
+/// noted. All that is reportable stays among the hopes, whatever the result.
 pub fn choose(
     parts: &Parts,
     lists: &ReadyLists,
     asked: &mut Asked,
+    chosen: &mut Vec<Reportable>,
     instance: DescId,
     most: usize,
-) -> Result<Found, AllocError>
+) -> Result<usize, AllocError>
     requires { HopesFor parts.now asked.old.hopes }
     ensures found { IfOk result
-        (λ found. IsFound parts.now (list_at lists.now instance.0) most found.reportables.items
-        found.walked) }
+        (λ walked. IsFound parts.now (list_at lists.now instance.0) most chosen.new.items walked) }
     ensures hopes { HopesFor parts.now asked.new.hopes }
 {
     asked.forget();
-    let mut reportables = Vec::new(parts.alloc);
+    chosen.clear();
     let mut walked = 0;
     let _length = lists.len(instance);
     for id in lists.iter(instance) {
-        if reportables.len() == most {
+        if chosen.len() == most {
             break;
         }
         walked += 1;
         if let Some(x) = reportable_at(parts, asked, id) {
-            reportables.push(x)?;
+            chosen.push(x)?;
         }
     }
-    Ok(Found {
-        reportables,
-        walked,
-    })
+    Ok(walked)
 }

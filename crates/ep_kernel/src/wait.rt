@@ -64,21 +64,16 @@ pub fn epoll_wait(
     parts.known();
     parts.interest.known();
     beside.lists.known();
-    let found = choose(
+    let walked = choose(
         parts,
         &beside.lists,
         &mut beside.asked,
+        &mut beside.chosen,
         instance,
         most(args.max),
     )?;
-    let outcome = parts.wait_with(step, caller, args, instance, &found.reportables)?;
-    take(
-        &parts.interest,
-        &mut beside.lists,
-        instance,
-        found.walked,
-        step,
-    );
+    let outcome = parts.wait_with(step, caller, args, instance, &beside.chosen)?;
+    take(&parts.interest, &mut beside.lists, instance, walked, step);
     Ok(outcome)
 }
 
@@ -116,19 +111,20 @@ pub fn resume(
     parts.known();
     parts.interest.known();
     beside.lists.known();
-    let found = choose(
+    let walked = choose(
         parts,
         &beside.lists,
         &mut beside.asked,
+        &mut beside.chosen,
         waiter.instance,
         most(waiter.max),
     )?;
-    let outcome = parts.resume_with(step, caller, waiter, &found.reportables, kept)?;
+    let outcome = parts.resume_with(step, caller, waiter, &beside.chosen, kept)?;
     take(
         &parts.interest,
         &mut beside.lists,
         waiter.instance,
-        found.walked,
+        walked,
         step,
     );
     Ok(outcome)

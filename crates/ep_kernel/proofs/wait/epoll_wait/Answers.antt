@@ -26,10 +26,10 @@ returns-clause-ok c =
     let p = c.args.parts.now in
     let l = c.args.beside.now.lists in
     let i = c.in-Ok.instance in
-    let walked = c.in_ok-found.found.walked in
+    let walked = c.in_ok-walked.walked in
     let chosen = c.deref.result.now in
     let fits : SFits w32 x.max = search rules in
-    let finds = same_found p (list_at l i.0) c.most.result (number_in x.max) walked c.in_ok-found.found.reportables.items chosen c.in_ok-found.ensures.found (c.most.ensures ∙ ap number_in (to_z-of_z w32 x.max fits)) c.deref.ensures.value in
+    let finds = same_found p (list_at l i.0) c.most.result (number_in x.max) walked c.choose.new.chosen.items chosen c.in_ok-walked.ensures.found (c.most.ensures ∙ ap number_in (to_z-of_z w32 x.max fits)) c.deref.ensures.value in
     let sound = subst (λ (q : Parts). IsSound q.interest) c.parts.view_is c.known-2.ensures in
     let lives = subst (λ (q : Parts). IsSome (number_under q.tables i)) c.parts.view_is c.in-Ok.ensures.lives in
     does_from (λ s. AreFair s p l) (IsPick p.tables i (number_in x.max) chosen) c.args.step (λ s. call_refusals p.tables.limits s x.pid.0 (wait_call x)) (λ s picked. call_change p.tables.limits s c.args.caller.0 x.pid.0 (wait_call x) picked) c.in_ok-outcome.outcome p c.wait_with.new.self
@@ -43,11 +43,11 @@ returns-clause-lists c =
     let l = c.args.beside.now.lists in
     let m = c.take.new.lists in
     let i = c.in-Ok.instance in
-    let walked = c.in_ok-found.found.walked in
+    let walked = c.in_ok-walked.walked in
     let chosen = c.deref.result.now in
     let fits : SFits w32 x.max = search rules in
-    let found = c.in_ok-found.ensures.found in
-    let all = c.in_ok-found.found.reportables.items in
+    let found = c.in_ok-walked.ensures.found in
+    let all = c.choose.new.chosen.items in
     let sound = subst (λ (r : Parts). IsSound r.interest) c.parts.view_is c.known-2.ensures in
     let waits = subst (λ (r : Parts). Waits r.tables x i) c.parts.view_is c.in-Ok.ensures in
     let takes = subst (λ (r : Parts). SetsList l m i.0 (taken (key_stays c.args.step r.interest) walked (list_at l i.0))) c.parts-2.view_is c.take.ensures in
@@ -78,25 +78,25 @@ returns-in-Err-clause-leaves c = nowhere_leaves c.refused.result.raising c.args.
 pub returns-clause-leaves : goal.returns-clause-leaves
 returns-clause-leaves c = record { files = c.wait_with.ensures.files; clock = c.in_ok-outcome.ensures.clock }
 
-pub returns-in_err-found-clause-last : goal.returns-in_err-found-clause-last
-returns-in_err-found-clause-last c = on_err c.from_residual.result (wait_last c.args.parts.now c.args.args c.in-Ok.instance (subst (λ (q : Parts). Waits q.tables c.args.args c.in-Ok.instance) c.parts.view_is c.in-Ok.ensures))
+pub returns-in_err-walked-clause-last : goal.returns-in_err-walked-clause-last
+returns-in_err-walked-clause-last c = on_err c.from_residual.result (wait_last c.args.parts.now c.args.args c.in-Ok.instance (subst (λ (q : Parts). Waits q.tables c.args.args c.in-Ok.instance) c.parts.view_is c.in-Ok.ensures))
 
 -- What it leaves beside the parts.
 pub returns-in-Err-clause-goes : goal.returns-in-Err-clause-goes
 returns-in-Err-clause-goes c = leaves_all (CallOf c.args.args.pid (wait_call c.args.args)) c.args.parts.now c.args.beside.now c.requires.stands
 
-pub returns-in_err-found-clause-goes : goal.returns-in_err-found-clause-goes
-returns-in_err-found-clause-goes c = leaves_stay (CallOf c.args.args.pid (wait_call c.args.args)) c.args.parts.now c.args.parts.now c.args.beside.now (record c.args.beside.now { asked = c.choose.new.asked }) refl refl c.requires.stands.room refl c.choose.ensures.hopes
+pub returns-in_err-walked-clause-goes : goal.returns-in_err-walked-clause-goes
+returns-in_err-walked-clause-goes c = leaves_stay (CallOf c.args.args.pid (wait_call c.args.args)) c.args.parts.now c.args.parts.now c.args.beside.now (record c.args.beside.now { asked = c.choose.new.asked; chosen = c.choose.new.chosen }) refl refl c.requires.stands.room refl c.choose.ensures.hopes
 
 pub returns-in_err-outcome-clause-goes : goal.returns-in_err-outcome-clause-goes
-returns-in_err-outcome-clause-goes c = leaves_stay (CallOf c.args.args.pid (wait_call c.args.args)) c.args.parts.now c.wait_with.new.self c.args.beside.now (record c.args.beside.now { asked = c.choose.new.asked }) refl refl c.requires.stands.room c.in_err-outcome.ensures.err c.choose.ensures.hopes
+returns-in_err-outcome-clause-goes c = leaves_stay (CallOf c.args.args.pid (wait_call c.args.args)) c.args.parts.now c.wait_with.new.self c.args.beside.now (record c.args.beside.now { asked = c.choose.new.asked; chosen = c.choose.new.chosen }) refl refl c.requires.stands.room c.in_err-outcome.ensures.err c.choose.ensures.hopes
 
 pub returns-clause-goes : goal.returns-clause-goes
 returns-clause-goes c =
-    leaves_reported (CallOf c.args.args.pid (wait_call c.args.args)) c.args.parts.now c.wait_with.new.self c.args.beside.now c.take.new.lists c.choose.new.asked c.args.step c.in_ok-outcome.outcome.picked c.in_ok-outcome.ensures.ids c.in_ok-outcome.ensures.entries c.requires.stands c.choose.ensures.hopes tt
+    leaves_reported (CallOf c.args.args.pid (wait_call c.args.args)) c.args.parts.now c.wait_with.new.self c.args.beside.now (record c.args.beside.now { lists = c.take.new.lists; asked = c.choose.new.asked; chosen = c.choose.new.chosen }) c.args.step c.in_ok-outcome.outcome.picked refl refl c.in_ok-outcome.ensures.ids c.in_ok-outcome.ensures.entries c.requires.stands c.choose.ensures.hopes tt
 
-pub returns-in_err-found-clause-err : goal.returns-in_err-found-clause-err
-returns-in_err-found-clause-err c = on_err c.from_residual.result (stays_by c.args.parts.now c.args.parts.now c.args.beside.now (record c.args.beside.now { asked = c.choose.new.asked }) refl refl refl)
+pub returns-in_err-walked-clause-err : goal.returns-in_err-walked-clause-err
+returns-in_err-walked-clause-err c = on_err c.from_residual.result (stays_by c.args.parts.now c.args.parts.now c.args.beside.now (record c.args.beside.now { asked = c.choose.new.asked; chosen = c.choose.new.chosen }) refl refl refl)
 
 pub returns-in_err-outcome-clause-err : goal.returns-in_err-outcome-clause-err
-returns-in_err-outcome-clause-err c = on_err c.from_residual-in_err-outcome.result (stays_by c.args.parts.now c.wait_with.new.self c.args.beside.now (record c.args.beside.now { asked = c.choose.new.asked }) refl refl c.in_err-outcome.ensures.err)
+returns-in_err-outcome-clause-err c = on_err c.from_residual-in_err-outcome.result (stays_by c.args.parts.now c.wait_with.new.self c.args.beside.now (record c.args.beside.now { asked = c.choose.new.asked; chosen = c.choose.new.chosen }) refl refl c.in_err-outcome.ensures.err)

@@ -68,10 +68,10 @@ returns-clause-ok c =
     let l = c.args.beside.now.lists in
     let i = w.instance in
     let caller = c.args.caller.0 in
-    let walked = c.in_ok-found.found.walked in
+    let walked = c.in_ok-walked.walked in
     let chosen = c.deref.result.now in
     let fits : SFits w32 w.max = search rules in
-    let finds = same_found p (list_at l i.0) c.most.result (number_in w.max) walked c.in_ok-found.found.reportables.items chosen c.in_ok-found.ensures.found (c.most.ensures ∙ ap number_in (to_z-of_z w32 w.max fits)) c.deref.ensures.value in
+    let finds = same_found p (list_at l i.0) c.most.result (number_in w.max) walked c.choose.new.chosen.items chosen c.in_ok-walked.ensures.found (c.most.ensures ∙ ap number_in (to_z-of_z w32 w.max fits)) c.deref.ensures.value in
     let sound = subst (λ (q : Parts). IsSound q.interest) c.parts.view_is c.known-2.ensures in
     let lives = subst (λ (q : Parts). IsPlaced q.tables.keys (parked caller w)) c.parts.view_is
     (found_all (IsPlaced k.tables.keys) caller k.waiters (parked caller w) (sym c.in-Some.ensures) c.parts.invariant.placed) in
@@ -97,10 +97,10 @@ returns-clause-lists c =
     let m = c.take.new.lists in
     let i = w.instance in
     let caller = c.args.caller.0 in
-    let walked = c.in_ok-found.found.walked in
+    let walked = c.in_ok-walked.walked in
     let chosen = c.deref.result.now in
-    let found = c.in_ok-found.ensures.found in
-    let all = c.in_ok-found.found.reportables.items in
+    let found = c.in_ok-walked.ensures.found in
+    let all = c.choose.new.chosen.items in
     let fits : SFits w32 w.max = search rules in
     let finds = same_found p (list_at l i.0) c.most.result (number_in w.max) walked all chosen found (c.most.ensures ∙ ap number_in (to_z-of_z w32 w.max fits)) c.deref.ensures.value in
     let sound = subst (λ (r : Parts). IsSound r.interest) c.parts.view_is c.known-2.ensures in
@@ -133,8 +133,8 @@ returns-then-not-waiter-clause-leaves c = nowhere_leaves c.settled.result.raisin
 pub returns-clause-leaves : goal.returns-clause-leaves
 returns-clause-leaves c = record { files = c.resume_with.ensures.files; clock = c.in_ok-outcome.ensures.clock }
 
-pub returns-in_err-found-clause-last : goal.returns-in_err-found-clause-last
-returns-in_err-found-clause-last c =
+pub returns-in_err-walked-clause-last : goal.returns-in_err-walked-clause-last
+returns-in_err-walked-clause-last c =
     let caller = c.args.caller.0 in
     let w = c.in-Some.waiter in
     on_err c.from_residual.result (resume_last c.args.parts.now caller w (subst (λ (q : Parts). find (is_caller caller) q.parked ≡ Some (parked caller w)) c.parts.view_is (sym c.in-Some.ensures)))
@@ -146,18 +146,18 @@ returns-in_default-clause-goes c = leaves_all Resume c.args.parts.now c.args.bes
 pub returns-then-not-waiter-clause-goes : goal.returns-then-not-waiter-clause-goes
 returns-then-not-waiter-clause-goes c = leaves_all Resume c.args.parts.now c.args.beside.now c.requires.stands
 
-pub returns-in_err-found-clause-goes : goal.returns-in_err-found-clause-goes
-returns-in_err-found-clause-goes c = leaves_stay Resume c.args.parts.now c.args.parts.now c.args.beside.now (record c.args.beside.now { asked = c.choose.new.asked }) refl refl c.requires.stands.room refl c.choose.ensures.hopes
+pub returns-in_err-walked-clause-goes : goal.returns-in_err-walked-clause-goes
+returns-in_err-walked-clause-goes c = leaves_stay Resume c.args.parts.now c.args.parts.now c.args.beside.now (record c.args.beside.now { asked = c.choose.new.asked; chosen = c.choose.new.chosen }) refl refl c.requires.stands.room refl c.choose.ensures.hopes
 
 pub returns-in_err-outcome-clause-goes : goal.returns-in_err-outcome-clause-goes
-returns-in_err-outcome-clause-goes c = leaves_stay Resume c.args.parts.now c.resume_with.new.self c.args.beside.now (record c.args.beside.now { asked = c.choose.new.asked }) refl refl c.requires.stands.room c.in_err-outcome.ensures.err c.choose.ensures.hopes
+returns-in_err-outcome-clause-goes c = leaves_stay Resume c.args.parts.now c.resume_with.new.self c.args.beside.now (record c.args.beside.now { asked = c.choose.new.asked; chosen = c.choose.new.chosen }) refl refl c.requires.stands.room c.in_err-outcome.ensures.err c.choose.ensures.hopes
 
 pub returns-clause-goes : goal.returns-clause-goes
 returns-clause-goes c =
-    leaves_reported Resume c.args.parts.now c.resume_with.new.self c.args.beside.now c.take.new.lists c.choose.new.asked c.args.step c.in_ok-outcome.outcome.picked c.in_ok-outcome.ensures.ids c.in_ok-outcome.ensures.entries c.requires.stands c.choose.ensures.hopes tt
+    leaves_reported Resume c.args.parts.now c.resume_with.new.self c.args.beside.now (record c.args.beside.now { lists = c.take.new.lists; asked = c.choose.new.asked; chosen = c.choose.new.chosen }) c.args.step c.in_ok-outcome.outcome.picked refl refl c.in_ok-outcome.ensures.ids c.in_ok-outcome.ensures.entries c.requires.stands c.choose.ensures.hopes tt
 
-pub returns-in_err-found-clause-err : goal.returns-in_err-found-clause-err
-returns-in_err-found-clause-err c = on_err c.from_residual.result (stays_by c.args.parts.now c.args.parts.now c.args.beside.now (record c.args.beside.now { asked = c.choose.new.asked }) refl refl refl)
+pub returns-in_err-walked-clause-err : goal.returns-in_err-walked-clause-err
+returns-in_err-walked-clause-err c = on_err c.from_residual.result (stays_by c.args.parts.now c.args.parts.now c.args.beside.now (record c.args.beside.now { asked = c.choose.new.asked; chosen = c.choose.new.chosen }) refl refl refl)
 
 pub returns-in_err-outcome-clause-err : goal.returns-in_err-outcome-clause-err
-returns-in_err-outcome-clause-err c = on_err c.from_residual-in_err-outcome.result (stays_by c.args.parts.now c.resume_with.new.self c.args.beside.now (record c.args.beside.now { asked = c.choose.new.asked }) refl refl c.in_err-outcome.ensures.err)
+returns-in_err-outcome-clause-err c = on_err c.from_residual-in_err-outcome.result (stays_by c.args.parts.now c.resume_with.new.self c.args.beside.now (record c.args.beside.now { asked = c.choose.new.asked; chosen = c.choose.new.chosen }) refl refl c.in_err-outcome.ensures.err)
