@@ -10,6 +10,7 @@ pub mod Mask
 pub mod Bytes
 pub mod Calls
 pub mod Event
+pub mod Plain
 pub mod Ops
 pub mod Nearest
 pub mod Line

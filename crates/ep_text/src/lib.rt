@@ -15,6 +15,7 @@ mod line_reader;
 mod masks;
 mod nearest;
 mod op;
+mod plain;
 mod print;
 mod read;
 mod reason;

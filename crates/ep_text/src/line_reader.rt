@@ -13,6 +13,7 @@ use crate::flat::{Members, read_flat};
 use crate::header::header_in;
 use crate::key::Key;
 use crate::line::Line;
+use crate::plain::{may_be_plain, plain_command};
 use crate::read::{asked, command, operation_in};
 use crate::source::{Member, Source};
 use ep_base::{CallerId, Event};
@@ -26,7 +27,7 @@ use std::alloc::{AllocError, Global};
 const LONGEST_FLAT: usize = 1_024;
 
 /// Reads lines one after another. It keeps the room that this takes from line to line, for lines of 16,384 bytes at
-/// most. A longer one is read as `read_line` reads it, and leaves no room behind.
+/// most. A longer one leaves no room behind.
 #[derive(Drop)]
 pub struct LineReader {
     values: ValueReader,
@@ -146,7 +147,47 @@ impl LineReader {
 
     /// What a line of a script is: the command that `read_line` finds, or the header that `read_header` does, if it is
     /// the first line. `AllocError` is want of memory.
+    #[inline(always)]
     pub fn read(
+        &mut self,
+        alloc: Global,
+        version: Version,
+        line: &[u8],
+        is_first: bool,
+    ) -> Result<Line, AllocError>
+        ensures header { IfOk result (λ l.
+            header_of l ≡ (if is_first then header line.now else None)) }
+        ensures command { IfOk result (λ l. command_of l ≡ event version line.now) }
+    {
+        if may_be_plain(line) {
+            return self.read_plain(alloc, version, line, is_first);
+        }
+        self.read_tokens(alloc, version, line, is_first)
+    }
+
+    /// What `read` answers, for a line that may be one of the commonest commands. It has a frame of its own, so that
+    /// other lines don't pay for it.
+    #[inline(never)]
+    fn read_plain(
+        &mut self,
+        alloc: Global,
+        version: Version,
+        line: &[u8],
+        is_first: bool,
+    ) -> Result<Line, AllocError>
+        ensures header { IfOk result (λ l.
+            header_of l ≡ (if is_first then header line.now else None)) }
+        ensures command { IfOk result (λ l. command_of l ≡ event version line.now) }
+    {
+        if let Some((caller, event)) = plain_command(alloc, line)? {
+            return Ok(Line::Command(caller, event_in(version, event)));
+        }
+        self.read_tokens(alloc, version, line, is_first)
+    }
+
+    /// What `read` answers, for any line: it is read a token at a time.
+    #[inline(never)]
+    fn read_tokens(
         &mut self,
         alloc: Global,
         version: Version,

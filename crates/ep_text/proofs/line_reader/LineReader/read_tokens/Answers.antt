@@ -1,5 +1,5 @@
 use Rattle.ep_text.proofs.HeaderLemmas.{no_header_written}
-use Rattle.ep_text.proofs.line_reader.LineReader.read.Goals as goal
+use Rattle.ep_text.proofs.line_reader.LineReader.read_tokens.Goals as goal
 
 pub returns-in-Some-clause-header : goal.returns-in-Some-clause-header
 returns-in-Some-clause-header c =
