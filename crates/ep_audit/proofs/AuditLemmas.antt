@@ -88,46 +88,6 @@ made_here limits s t next event answer past now acts asked real =
     subst (λ (b : Bool). MatchBool b (Stays s t past now) (Adds limits next.caller event answer s t past now)) real acts in
     made_by limits s t next event answer added.picked past now added.goes added.added asked
 
--- one record more
-run_more : (limits bounds : Limits) (records : List Record) (place : ℕ) (s t : State) (next : Record) (goes : Bool)
-    → bounds ≡ limits
-    → place < length records
-    → next ≡ get_or records place next
-    → run limits opening (take place records) ≡ Some s
-    → Follows bounds s t next goes
-    → run limits opening (take (place + 1) records) ≡ (if goes then Some t else None)
-run_more limits bounds records place s t next goes same within is before follows =
-    ap (run limits opening) (take_more records place next within)
-    ∙ run_on-append limits (Some opening) (take place records) (get_or records place next)
-    ∙ ap (λ (r : Record). go_on limits (run limits opening (take place records)) r) (sym is)
-    ∙ ap (λ (o : Option State). go_on limits o next) before
-    ∙ subst (λ (l : Limits). Follows l s t next goes) same follows
-
-pub goes_on : (limits bounds : Limits) (records : List Record) (place : ℕ) (s t : State) (next : Record) (goes : Bool)
-    → bounds ≡ limits
-    → place < length records
-    → next ≡ get_or records place next
-    → run limits opening (take place records) ≡ Some s
-    → Follows bounds s t next goes
-    → goes ≡ true
-    → run limits opening (take (place + 1) records) ≡ Some t
-goes_on limits bounds records place s t next goes same within is before follows e =
-    run_more limits bounds records place s t next goes same within is before follows
-    ∙ ap (λ (b : Bool). if b then Some t else None) e
-
-pub goes_wrong : (limits bounds : Limits) (records : List Record) (place : ℕ) (s t : State) (next : Record) (goes : Bool)
-    → bounds ≡ limits
-    → place < length records
-    → next ≡ get_or records place next
-    → run limits opening (take place records) ≡ Some s
-    → Follows bounds s t next goes
-    → goes ≡ false
-    → IsFirstIllegal limits records place
-goes_wrong limits bounds records place s t next goes same within is before follows e =
-    let none = run_more limits bounds records place s t next goes same within is before follows
-    ∙ ap (λ (b : Bool). if b then Some t else None) e in
-    record { before = ap is_some before; with_it = ap is_some none }
-
 -- what follows something illegal is illegal
 run_of_none : (limits : Limits) (records : List Record) → run_on limits None records ≡ None
 run_of_none limits [] = refl

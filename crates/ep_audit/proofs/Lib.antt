@@ -1,3 +1,4 @@
 pub mod AnswerLemmas
 pub mod AuditLemmas
 pub mod AuditorLemmas
+pub mod KeptLemmas

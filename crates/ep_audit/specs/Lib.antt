@@ -1,3 +1,4 @@
 pub mod Audit
 pub mod Auditor
 pub mod Judged
+pub mod Kept

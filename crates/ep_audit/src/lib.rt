@@ -2,6 +2,7 @@
 #![tactic(auto)]
 
 mod auditor;
+mod steps;
 mod verdict;
 
 pub use crate::auditor::Auditor;

@@ -1,16 +1,15 @@
 //! Whether a list of records is a run of the machine.
-ghost use Rattle.std.specs.Prelude.{◌≡◌, ◌↔◌, ℕ, IfOk, IsErrOf, IsOk, IsTrue, OnOk, Some, false};
-ghost use Rattle.ep_base.specs.Answer.{is_no_memory};
+ghost use Rattle.std.specs.Prelude.{◌≡◌, ◌↔◌, ◌++◌, ◌∷◌, [], ℕ, IfOk, IsErrOf, IsOk, IsTrue, List};
 ghost use Rattle.ep_base.specs.Limits.{Limits as Bounds};
+ghost use Rattle.ep_base.specs.declared.record.Record.{Record as Recorded};
 ghost use Rattle.ep_machine.specs.Run.{is_run};
-ghost use Rattle.ep_machine.specs.State.{opening};
-ghost use Rattle.ep_calls.specs.Book.{state_of};
-ghost use Rattle.ep_audit.specs.Audit.{Finds, Follows, HasMade, IfJudged, IsFirstIllegal};
+ghost use Rattle.ep_audit.specs.Audit.{Finds, IfJudged, IsFirstIllegal};
+ghost use Rattle.ep_audit.specs.Auditor.{HasAllowed, Judges};
 ghost use Rattle.ep_audit.specs.Judged.{judged_records};
 ghost use Rattle.ep_audit.specs.declared.verdict.AuditFault.TheVariants.{Illegal, Memory};
 
-use ep_base::{Answer, Limits, Record};
-use ep_plain::{Kernel, PlainKernel};
+use crate::auditor::Auditor;
+use ep_base::{Limits, Record};
 use ep_records::{Entry, History};
 use std::alloc::{AllocError, Global};
 
@@ -38,104 +37,59 @@ impl From<AllocError> for AuditFault {
     }
 }
 
-/// Whether a step was answered as a record says. An `Err`: it found no memory.
-fn is_answered(answer: &Answer, next: &Record) -> Result<bool, AllocError>
-    ensures real { IfOk result (λ _. is_no_memory answer.now ≡ false) }
-    ensures same { IfOk result (λ same. IsTrue same ↔ answer.now ≡ next.now.answer) }
-{
-    if answer.is_no_memory() {
-        return Err(AllocError);
-    }
-    Ok(answer.is_same(&next.answer))
-}
-
-/// Makes the step that the machine has here for the event of a record, whatever it reports. An `Err` is want of memory.
-fn make_step(kernel: &mut PlainKernel, next: &Record) -> Result<(), AllocError>
-    ensures limits { kernel.new.limits ≡ kernel.old.limits }
-    ensures taken { kernel.new.taken ≡ kernel.old.taken }
-    ensures made { OnOk result
-        (HasMade kernel.old.limits (state_of kernel.old) next.now kernel.new.past) }
-{
-    let event = next.event.copy()?;
-    if kernel.step(next.caller, event).is_no_memory() {
-        return Err(AllocError);
-    }
-    Ok(())
-}
-
-/// Makes the step that a record tells of: whether the machine has it here, with the record's answer. If not, the kernel
-/// has made a step of the same event that the machine has here: with the record's report, if there is one with that.
-/// After an `Err`, which is want of memory, the kernel is in any state.
-pub(crate) fn follow(kernel: &mut PlainKernel, next: &Record) -> Result<bool, AllocError>
-    ensures limits { kernel.new.limits ≡ kernel.old.limits }
-    ensures taken { kernel.new.taken ≡ kernel.old.taken }
-    ensures goes { IfOk result
-        (Follows kernel.old.limits (state_of kernel.old) (state_of kernel.new) next.now) }
-    ensures made { IfOk result (λ goes. goes ≡ false
-        → HasMade kernel.old.limits (state_of kernel.old) next.now kernel.new.past) }
-{
-    let event = next.event.copy()?;
-    let step = kernel.step_with(next.caller, event, next.picked.as_slice());
-    match step {
-        None => {
-            make_step(kernel, next)?;
-            Ok(false)
-        }
-        Some(answer) => is_answered(&answer, next),
-    }
-}
-
 /// The place of the first record that the machine does not allow, if there is one.
-fn first_illegal(kernel: &mut PlainKernel, records: &[Record]) -> Result<Option<usize>, AllocError>
-    requires { state_of kernel.old ≡ opening }
-    ensures { IfOk result (Finds kernel.old.limits records.now) }
+fn first_illegal(auditor: &mut Auditor, records: &[Record]) -> Result<Option<usize>, AllocError>
+    ensures { (limits : Bounds) → HasAllowed limits [] auditor.old
+        → IfOk result (Finds limits records.now) }
 {
     for (place, next) in records.iter().enumerate() {
-        if !follow(kernel, next)? {
+        if !auditor.allows(next)? {
             return Ok(Some(place));
         }
     }
     Ok(None)
 }
 
-/// Makes the step that a record of a history tells of, which is copied for it: whether the machine has it here.
-fn follow_entry(kernel: &mut PlainKernel, entry: &Entry<'_>) -> Result<bool, AllocError>
-    ensures limits { kernel.new.limits ≡ kernel.old.limits }
-    ensures goes { IfOk result
-        (Follows kernel.old.limits (state_of kernel.old) (state_of kernel.new) entry.now) }
+/// Whether the machine allows a record of a history, which is copied for the auditor.
+fn allows_entry(auditor: &mut Auditor, entry: &Entry<'_>) -> Result<bool, AllocError>
+    ensures { IfOk result (λ allowed. (limits : Bounds) (records : List Recorded) →
+        HasAllowed limits records auditor.old
+        → Judges limits (records ++ entry.now ∷ []) auditor.new allowed) }
 {
     let next = entry.copy()?;
-    follow(kernel, &next)
+    auditor.allows(&next)
 }
 
 /// The place of the first record of a history that the machine does not allow, if there is one.
-fn first_illegal_kept(
-    kernel: &mut PlainKernel,
-    history: &History,
-) -> Result<Option<usize>, AllocError>
-    requires { state_of kernel.old ≡ opening }
-    ensures { IfOk result (Finds kernel.old.limits history.now.items) }
+fn first_illegal_kept(auditor: &mut Auditor, history: &History) -> Result<Option<usize>, AllocError>
+    ensures { (limits : Bounds) → HasAllowed limits [] auditor.old
+        → IfOk result (Finds limits history.now.items) }
 {
     for index in 0..history.len() {
         let Some(entry) = history.get(index) else {
             unreachable!();
         };
-        if !follow_entry(kernel, &entry)? {
+        if !allows_entry(auditor, &entry)? {
             return Ok(Some(index));
         }
     }
     Ok(None)
 }
 
-/// A kernel on which records can be judged.
-trait Judging: Kernel {
+/// Who can judge records.
+trait Judging {
+    /// Whether it has allowed no record yet, and judges by these limits.
+    ghost is_new: { Bounds → Self → Type 0 };
+
     /// The place of the first record that the machine does not allow, if there is one.
     fn first_illegal(&mut self, judged: Judged<'_>) -> Result<Option<usize>, AllocError>
-        requires { Self.state self.old ≡ opening }
-        ensures { IfOk result (Finds (Self.bounds self.old) (judged_records judged.entry)) };
+        ensures { (limits : Bounds) → is_new limits self.old
+            → IfOk result (Finds limits (judged_records judged.entry)) };
 }
 
-impl Judging for PlainKernel {
+impl Judging for Auditor {
+    ghost is_new = { λ limits auditor. HasAllowed limits [] auditor };
+
     fn first_illegal(&mut self, judged: Judged<'_>) -> Result<Option<usize>, AllocError> {
         match judged {
             Judged::Listed(records) => first_illegal(self, records),
@@ -144,21 +98,20 @@ impl Judging for PlainKernel {
     }
 }
 
-/// The same of the records on a new kernel, if there was memory to make it. It owns the kernel as one of any kind,
+/// The same of the records by a new auditor, if there was memory to make it. It owns the auditor as one of any kind,
 /// since the proof of a function that owns what it knows the parts of grows with them.
-fn first_illegal_on<K: Judging + Drop>(
-    made: Result<K, AllocError>,
+fn first_illegal_by<J: Judging + Drop>(
+    made: Result<J, AllocError>,
     judged: Judged<'_>,
 ) -> Result<Option<usize>, AllocError>
-    requires { IfOk made (λ kernel. K.state kernel ≡ opening) }
-    ensures { (limits : Bounds) → IfOk made (λ kernel. K.bounds kernel ≡ limits)
+    ensures { (limits : Bounds) → IfOk made (J.is_new limits)
         → IfOk result (Finds limits (judged_records judged.entry)) }
 {
-    let mut kernel = made?;
-    kernel.first_illegal(judged)
+    let mut auditor = made?;
+    auditor.first_illegal(judged)
 }
 
-/// The same of the records on a new kernel of these limits.
+/// The same of the records by a new auditor of these limits.
 fn first_illegal_from_new(
     alloc: Global,
     limits: &Limits,
@@ -166,7 +119,7 @@ fn first_illegal_from_new(
 ) -> Result<Option<usize>, AllocError>
     ensures { IfOk result (Finds limits.now (judged_records judged.entry)) }
 {
-    first_illegal_on(PlainKernel::new(alloc, *limits), judged)
+    first_illegal_by(Auditor::new(alloc, limits), judged)
 }
 
 /// The verdict on records.

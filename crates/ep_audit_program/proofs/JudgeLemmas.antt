@@ -105,6 +105,28 @@ none_when : (limits : Limits) (records : List Record) (auditor : Auditor) (b : B
 none_when limits records auditor true e p = absurd (not_both (sym e))
 none_when limits records auditor false e p = p
 
+all_when : (limits : Limits) (records : List Record) (auditor : Auditor) (b : Bool) → b ≡ true → Judges limits records auditor b → HasAllowed limits records auditor
+all_when limits records auditor true e p = p
+all_when limits records auditor false e p = absurd (not_both e)
+
+found_none : (limits : Limits) (records : List Record) (lines : List (List ℕ)) (judge : Judge) (o : Option IllegalRecord)
+    → is_some o ≡ false
+    → HasAllowed limits records judge.auditor
+    → Found limits records lines judge o
+found_none limits records lines judge None e p = p
+found_none limits records lines judge (Some found) e p = absurd (not_both (sym e))
+
+-- it allowed this one
+pub told_legal : (limits : Limits) (records : List Record) (lines : List (List ℕ)) (old : Judge) (auditor : Auditor) (r : Record) (line : List ℕ) (b : Bool)
+    → is_some old.illegal ≡ false
+    → ((limits : Limits) (records : List Record) → HasAllowed limits records old.auditor → Judges limits (records ++ r ∷ []) auditor b)
+    → b ≡ true
+    → WasTold limits records lines old
+    → WasTold limits (records ++ r ∷ []) (lines ++ line ∷ []) (record old { auditor = auditor })
+told_legal limits records lines old auditor r line b none judges right told =
+    found_none limits (records ++ r ∷ []) (lines ++ line ∷ []) (record old { auditor = auditor }) old.illegal none
+    (all_when limits (records ++ r ∷ []) auditor b right (judges limits records (had_allowed limits records lines old old.illegal none told)))
+
 -- it did not
 pub told_illegal : (limits : Limits) (records : List Record) (lines : List (List ℕ)) (old : Judge) (auditor : Auditor) (found : IllegalRecord) (r : Record) (line : List ℕ) (b : Bool)
     → is_some old.illegal ≡ false

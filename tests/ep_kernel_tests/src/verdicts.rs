@@ -2,6 +2,7 @@
 
 use crate::program::{Failing, words};
 use ep_audit_program::{Files, run_with};
+use std::alloc::Global;
 use std::io::{self, ErrorKind, Read};
 use std::process::Abort;
 use std::test::Fail;
@@ -202,4 +203,102 @@ fn reads_the_longest_line(rt: HostRuntime) -> Result<(), Fail> {
     line.push(b' ')?;
     let error = "epaudit: line 1 is longer than 56000000 bytes\n";
     expect_verdict(&rt, &[], line.as_slice(), 2, "", error)
+}
+
+/// An auditor takes its records out of the kernel as it is told the next one behind so many.
+const PIECE: u64 = 256;
+
+/// Places before, at and behind those at which records are taken out for the first and for the second time.
+const PLACES: [u64; 9] = [
+    0,
+    1,
+    PIECE - 1,
+    PIECE,
+    PIECE + 1,
+    2 * PIECE - 1,
+    2 * PIECE,
+    2 * PIECE + 1,
+    3 * PIECE,
+];
+
+/// Of a record that opens an instance, what stands before and behind its number.
+const OPENED: (&str, &str) = (
+    "{\"answer\":{\"num\":",
+    "},\"caller\":0,\"event\":{\"call\":{\"cloexec\":false,\"op\":\"epoll\"},\"pid\":1},\"picked\":[]}",
+);
+
+/// The line of a record that opens an instance at this number.
+fn opened(alloc: Global, number: u64) -> Result<String, Fail> {
+    let (front, rest) = OPENED;
+    Ok(format!(in alloc; "{front}{number}{rest}\n")?)
+}
+
+/// A history of so many instances, which get the numbers from 3 on, and of a last one, for which it says this number.
+fn opened_until(alloc: Global, count: u64, last: u64) -> Result<String, Fail> {
+    let mut history = String::new(alloc);
+    for number in 3..count.saturating_add(3) {
+        history.push_str(opened(alloc, number)?.as_str())?;
+    }
+    history.push_str(opened(alloc, last)?.as_str())?;
+    Ok(history)
+}
+
+/// What is written if the last one has this number, and this one is the lowest that is free.
+fn opened_at_another(alloc: Global, place: u64, last: u64, free: u64) -> Result<String, Fail> {
+    let head = "the machine does not allow this answer here";
+    let (line, other) = (opened(alloc, last)?, opened(alloc, free)?);
+    Ok(format!(in alloc; "illegal at record {place}: {head}\n{line}it allows {other}")?)
+}
+
+/// The illegal record is told, with what is allowed there, wherever records were taken out.
+#[test]
+fn tells_what_is_allowed_at_each_place(rt: HostRuntime) -> Result<(), Fail> {
+    for place in PLACES {
+        let free = place.saturating_add(3);
+        let wrong = opened_until(rt.alloc(), place, 2)?;
+        let told = opened_at_another(rt.alloc(), place, 2, free)?;
+        expect_verdict(&rt, &[], wrong.as_bytes(), 1, told.as_str(), "")?;
+        let right = opened_until(rt.alloc(), place, free)?;
+        let count = place.saturating_add(1);
+        let told = format!(in rt.alloc(); "ok {count} records\n")?;
+        expect_verdict(&rt, &[], right.as_bytes(), 0, told.as_str(), "")?;
+    }
+    Ok(())
+}
+
+/// A pipe, of which 65,536 bytes are written and read.
+const LONG: (&str, &str, &str, &str, &str) = (
+    PIPE,
+    "{\"answer\":{\"num\":65536},\"caller\":0,\"event\":{\"call\":{\"fd\":4,\"hex\":\"",
+    "\",\"op\":\"write\"},\"pid\":1},\"picked\":[]}\n",
+    "{\"answer\":{\"bytes\":\"",
+    "\"},\"caller\":0,\"event\":{\"call\":{\"fd\":3,\"n\":65536,\"op\":\"read\"},\"pid\":1},\"picked\":[]}\n",
+);
+
+/// So many times the byte 255, in digits.
+fn digits(alloc: Global, count: usize) -> Result<String, Fail> {
+    let mut digits = String::new(alloc);
+    for _ in 0..count {
+        digits.push_str("ff")?;
+    }
+    Ok(digits)
+}
+
+/// A record of so many bytes is taken out at once.
+#[test]
+fn tells_what_is_allowed_behind_long_records(rt: HostRuntime) -> Result<(), Fail> {
+    let alloc = rt.alloc();
+    let (pipe, write, written, read, asked) = LONG;
+    let (all, less) = (digits(alloc, 65_536)?, digits(alloc, 65_535)?);
+    let begun = format!(in alloc; "{pipe}{write}{all}{written}")?;
+    let again = format!(in alloc; "{begun}{read}{all}{asked}{read}{asked}")?;
+    let illegal = format!(in alloc; "{begun}{read}{less}{asked}")?;
+    let head = "illegal at record 2: the machine does not allow this answer here";
+    let told = format!(in alloc; "{head}\n{read}{less}{asked}it allows {read}{all}{asked}")?;
+    expect_verdict(&rt, &[], illegal.as_bytes(), 1, told.as_str(), "")?;
+    let head = "illegal at record 3: the machine does not allow this answer here";
+    let empty =
+        "{\"answer\":{\"err\":[11,\"EAGAIN\"]},\"caller\":0,\"event\":{\"call\":{\"fd\":3,\"n\":65536,\"op\":\"read\"},\"pid\":1},\"picked\":[]}";
+    let told = format!(in alloc; "{head}\n{read}{asked}it allows {empty}\n")?;
+    expect_verdict(&rt, &[], again.as_bytes(), 1, told.as_str(), "")
 }

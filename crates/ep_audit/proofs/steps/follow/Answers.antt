@@ -1,6 +1,6 @@
 use Rattle.ep_calls.specs.Book.{state_of}
 use Rattle.ep_audit.proofs.AuditLemmas.{answered, made_with}
-use Rattle.ep_audit.proofs.verdict.follow.Goals as goal
+use Rattle.ep_audit.proofs.steps.follow.Goals as goal
 
 pub returns-in-Some-clause-goes : goal.returns-in-Some-clause-goes
 returns-in-Some-clause-goes c =

@@ -1,7 +1,7 @@
 use Rattle.std.proofs.Common.{◌∙◌, sym}
 use Rattle.ep_calls.specs.Book.{state_of}
 use Rattle.ep_audit.proofs.AuditLemmas.{made_here}
-use Rattle.ep_audit.proofs.verdict.make_step.Goals as goal
+use Rattle.ep_audit.proofs.steps.make_step.Goals as goal
 
 pub returns-clause-made : goal.returns-clause-made
 returns-clause-made c =
