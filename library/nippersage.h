@@ -282,8 +282,9 @@ int nippersage_shared(struct nippersage_task task, const char *what);
 /* A task of a program. The first is caller 1, the second caller 2, all in process 1. It has one of two functions:
  *
  * `turn` makes one call each time it is called, and answers 1 to be called again, 0 at its end, or minus an error number
- * if it failed. A wait by nippersage_epoll_wait that sleeps answers NIPPERSAGE_PARKED. Then the turn is over; once the
- * wait may end, the task is called again and makes the same call again, which ends it.
+ * if it failed. A wait by nippersage_epoll_wait that sleeps answers NIPPERSAGE_PARKED. Then the turn is over, and the
+ * task answers 1, or hands that answer on. Once the wait may end, the task is called again and makes the same call
+ * again, which ends it.
  *
  * `run` runs in a thread of its own, one thread at a time, and makes any number of calls. Its waits sleep. It answers 0
  * at its end, or minus an error number if it failed. Once the order is over its calls answer -ECANCELED, and it returns.

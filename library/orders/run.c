@@ -33,10 +33,16 @@ static void no_call(struct search *search, int number) {
              "nippersage_shared is a turn without a call", name_of(&search->names, number));
 }
 
+/* What a task answers to a turn. A wait that sleeps is no failure of the task that hands its answer on. */
+static int result_of(const struct nippersage_program_task *task, struct nippersage_task by, void *shared) {
+    int result = task->turn(by, shared);
+    return result == NIPPERSAGE_PARKED ? 1 : result;
+}
+
 static void run_by_turns(struct search *search) {
     int number;
     while ((number = order_next(&search->order)) != NOBODY) {
-        int result = search->program->tasks[number].turn(task_of(search, number), search->shared);
+        int result = result_of(&search->program->tasks[number], task_of(search, number), search->shared);
         if (search->fault.kind || search->order.lacks) return;
         if (search->order.calls == 0 && result >= 0) {
             no_call(search, number);
@@ -62,7 +68,7 @@ struct threads {
 /* Runs a task that is called back as a thread would run it. */
 static int run_turns(const struct nippersage_program_task *task, struct nippersage_task by, void *shared) {
     int result = 1;
-    while (result > 0) result = task->turn(by, shared);
+    while (result > 0) result = result_of(task, by, shared);
     return result;
 }
 

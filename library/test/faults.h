@@ -61,8 +61,7 @@ static inline int wait_at(struct nippersage_task task, struct shared *e, int ep,
     int me = (int)task.caller - 1;
     struct epoll_event event;
     int count = nippersage_epoll_wait(task, ep, &event, 1, -1);
-    if (count == NIPPERSAGE_PARKED) return 1;
-    if (count < 0) return count;
+    if (count < 0) return count; /* NIPPERSAGE_PARKED, too */
     e->bits = event.events;
     e->data[me] = event.data.u64;
     e->at[me] = next;
