@@ -44,6 +44,7 @@ pub mod EntryLemmas
 pub mod CauseLemmas
 pub mod StepLemmas
 pub mod KeptLemmas
+pub mod GivenLemmas
 pub mod IdLemmas
 pub mod NextArrivalLemmas
 pub mod NextMomentLemmas

@@ -27,3 +27,4 @@ pub mod Ids
 pub mod Arrivals
 pub mod Driver
 pub mod Spared
+pub mod Given

@@ -9,6 +9,7 @@ ghost use Rattle.ep_machine.specs.Waits.{is_marked, is_parked};
 ghost use Rattle.ep_machine.specs.State.{State, opening};
 ghost use Rattle.ep_calls.specs.Acts.{Acts, ComesLast, is_no_memory};
 ghost use Rattle.ep_calls.specs.Driver.{TellsNext, first_marked};
+ghost use Rattle.ep_calls.specs.Given.{TakesNoCopy};
 ghost use Rattle.ep_calls.specs.KeptRecords.{KeepsRecord};
 ghost use Rattle.ep_calls.specs.Spared.{IsSpared};
 ghost use Rattle.ep_records.specs.Past.{whole};
@@ -56,6 +57,23 @@ pub trait Kernel {
             → ComesLast (bounds self.old) caller event result (state self.old) }
         ensures acts { Acts (bounds self.old) caller event result (state self.old) (state self.new)
             (past self.old) (past self.new) };
+
+    /// One event that is lent, for whoever makes the same call again and again. It is answered and recorded as by
+    /// `step`. Nothing of it is copied, so what `step` says of ENOMEM holds here, too.
+    ///
+    /// Only a write of more than 16 bytes, or of some bytes by a process from 2^32 on, is copied, before anything
+    /// changes. If memory for that copy is refused, the answer is ENOMEM and nothing changes: also if `step` would
+    /// have done the write, or refused it.
+    fn step_on(&mut self, caller: CallerId, event: &Event) -> Answer
+        ensures limits { bounds self.new ≡ bounds self.old }
+        ensures taken { taken self.new ≡ taken self.old }
+        ensures capacity { capacity self.old ≤ capacity self.new }
+        ensures spared { IsSpared (state self.old).files event.now → TakesNoCopy event.now
+            → length (past self.old) < capacity self.old → is_no_memory result ≡ false }
+        ensures last { TakesNoCopy event.now → length (past self.old) < capacity self.old
+            → ComesLast (bounds self.old) caller event.now result (state self.old) }
+        ensures acts { Acts (bounds self.old) caller event.now result (state self.old)
+            (state self.new) (past self.old) (past self.new) };
 
     /// A step whose record is put at the end of a list of the caller's too. ENOMEM is want of memory, for the history
     /// or for that list: then the list too is as before, but that it may have more room. It may come of any event,

@@ -8,6 +8,7 @@ mod copies;
 mod driver;
 mod file_call;
 mod forget;
+mod given;
 mod kernel;
 mod object_call;
 mod outcome;
@@ -26,6 +27,7 @@ mod wait;
 
 pub use crate::control::{Control, Named, Operation, Plan};
 pub use crate::copies::Copies;
+pub use crate::given::Given;
 pub use crate::kernel::Kernel;
 pub use crate::outcome::Outcome;
 pub use crate::parts::Parts;

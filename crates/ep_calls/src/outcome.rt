@@ -3,16 +3,18 @@ ghost use Rattle.std.specs.Prelude.{◌≡◌, ◌+◌, ◌<◌, ◌≤◌, ◌+
 ghost use Rattle.std.specs.Option.{ForSome};
 ghost use Rattle.ep_base.specs.declared.answer.Answer.TheVariants.{Refused as refused};
 ghost use Rattle.ep_calls.specs.Acts.{is_no_memory};
+ghost use Rattle.ep_calls.specs.Given.{FitsSlot, IsShortWrite};
 ghost use Rattle.ep_calls.specs.KeptRecords.{AreCopies, HasCopy, IsCopied, IsInline, IsInlineWithout, inline_prop, spare_in};
 ghost use Rattle.ep_calls.specs.Reply.{IsSettled};
 ghost use Rattle.ep_calls.specs.declared.raising.Raising.TheVariants.{Nowhere};
 
 use crate::copies::Copies;
+use crate::given::Given;
 use crate::picks::Picks;
 use crate::raising::Raising;
 use crate::reply::Reply;
 use crate::spare::Spare;
-use ep_base::{Answer, CallerId, Errno, Event, Record};
+use ep_base::{Answer, CallerId, Errno, Record};
 use ep_records::History;
 use std::alloc::Global;
 
@@ -94,17 +96,18 @@ impl Outcome {
         alloc: Global,
         history: &mut History,
         caller: CallerId,
-        event: Event,
+        event: Given<'_>,
         kept: bool,
     ) -> (Answer, Option<Spare>)
         requires inline { kept ≡ true → spare_in self.copies ≡ None
             → IsInline self.answer self.picked }
+        requires slot { FitsSlot event self.answer self.picked }
         requires room { 0 < history.old.room }
         ensures answer { result.0 ≡ self.answer }
         ensures spare { kept ≡ true → HasCopy result.1 self.answer self.picked }
         ensures items { history.new.items ≡ history.old.items ++ record {
           caller = caller;
-          event = event;
+          event = event.entry;
           answer = self.answer;
           picked = self.picked;
         } ∷ [] }
@@ -122,7 +125,7 @@ impl Outcome {
             ..
         } = self;
         let answer = answer.into_answer(alloc);
-        if history.push_short(caller, &event, &answer, picked.as_slice()) {
+        if history.push_short(caller, event.event(), &answer, picked.as_slice()) {
             return (answer, None);
         }
         let rest = Rest { picked, copies };
@@ -137,16 +140,17 @@ impl Outcome {
         alloc: Global,
         history: &mut History,
         caller: CallerId,
-        event: Event,
+        event: Given<'_>,
     ) -> (Answer, Spare)
         requires inline { spare_in self.copies ≡ None → IsInline self.answer self.picked }
+        requires slot { FitsSlot event self.answer self.picked }
         requires room { 0 < history.old.room }
         ensures answer { result.0 ≡ self.answer }
         ensures spare { result.1.answer ≡ self.answer }
         ensures picked { result.1.picked ≡ self.picked }
         ensures items { history.new.items ≡ history.old.items ++ record {
           caller = caller;
-          event = event;
+          event = event.entry;
           answer = self.answer;
           picked = self.picked;
         } ∷ [] }
@@ -168,12 +172,14 @@ impl Outcome {
             }
         };
         let spare = Spare::of(spare, &answer, &picked);
-        history.push_reserved(Record {
-            caller,
-            event,
-            answer: recorded,
-            picked,
-        });
+        if !history.push_short(caller, event.event(), &answer, picked.as_slice()) {
+            history.push_long(Record {
+                caller,
+                event: event.into_event(),
+                answer: recorded,
+                picked,
+            });
+        }
         (answer, spare)
     }
 }
@@ -195,15 +201,16 @@ impl Rest {
         alloc: Global,
         history: &mut History,
         caller: CallerId,
-        event: Event,
+        event: Given<'_>,
         answer: &Answer,
     )
+        requires long { IsShortWrite event → ⊥ }
         requires inline { IsInlineWithout self.copies answer.now }
         requires recorded { ForSome self.copies (λ made. made.value.recorded ≡ answer.now) }
         requires room { 0 < history.old.room }
         ensures items { history.new.items ≡ history.old.items ++ record {
           caller = caller;
-          event = event;
+          event = event.entry;
           answer = answer.now;
           picked = self.picked;
         } ∷ [] }
@@ -217,7 +224,7 @@ impl Rest {
         };
         history.push_long(Record {
             caller,
-            event,
+            event: event.into_event(),
             answer: recorded,
             picked: picked.into_picked(alloc),
         });

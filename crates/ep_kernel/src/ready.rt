@@ -3,6 +3,7 @@ ghost use Rattle.std.specs.Prelude.{◌≡◌, ◌<◌, ◌≤◌, [], All, IfOk
 ghost use Rattle.ep_base.specs.Call.{EventHasNoBytes};
 ghost use Rattle.ep_base.specs.declared.errno.Errno.TheVariants.{Einval};
 ghost use Rattle.ep_calls.specs.Acts.{Acts, Adds, ComesLast, IsUnrefused, is_no_memory};
+ghost use Rattle.ep_calls.specs.Given.{TakesNoCopy};
 ghost use Rattle.ep_calls.specs.KeptRecords.{Gains, HasRecord, KeepsRecord};
 ghost use Rattle.ep_calls.specs.Parts.{AreCoherent};
 ghost use Rattle.ep_calls.specs.Spared.{IsSpared};
@@ -25,7 +26,7 @@ use crate::settle::{know, rest, spread};
 use crate::watches::{Watch, ask, find_named, find_wait};
 use ep_alarms::{Alarms, find_called};
 use ep_base::{Answer, CallerId, Errno, Event, Fd, Limits, Moment, Pid, Record};
-use ep_calls::{Kernel, Parts, Request, Spare};
+use ep_calls::{Given, Kernel, Parts, Request, Spare};
 use ep_climb::{attend, left, resumed_at};
 use ep_law::laws::{ends_are_apart, reportables_are_spread};
 use ep_order::{lists_go_on, marked_are_looked_at};
@@ -157,43 +158,44 @@ impl ReadyKernel {
     fn try_step(
         &mut self,
         caller: CallerId,
-        event: Event,
+        event: Given<'_>,
         kept: bool,
     ) -> Result<(Answer, Option<Spare>), AllocError>
         ensures limits { self.new.book.limits ≡ self.old.book.limits }
         ensures taken { self.new.book.taken ≡ self.old.book.taken }
         ensures capacity { self.old.book.capacity ≤ self.new.book.capacity }
         ensures ok { IfOk result
-            (λ r. Adds self.old.book.limits caller event r.0 (state_of self.old) (state_of self.new)
+            (λ r. Adds self.old.book.limits caller event.entry r.0 (state_of self.old) (state_of self.new)
             self.old.book.past self.new.book.past) }
-        ensures lists { IfOk result (λ r. TurnsLists caller event r.0 self.old self.new) }
+        ensures lists { IfOk result (λ r. TurnsLists caller event.entry r.0 self.old self.new) }
         ensures real { IfOk result (λ r. is_no_memory r.0 ≡ false) }
         ensures spare { IfOk result
-            (λ r. kept ≡ true → HasRecord caller event r.1 self.old.book.past self.new.book.past) }
-        ensures spared { IsSpared (state_of self.old).files event
+            (λ r. kept ≡ true → HasRecord caller event.entry r.1 self.old.book.past self.new.book.past) }
+        ensures spared { IsSpared (state_of self.old).files event.entry
             → length self.old.book.past < self.old.book.capacity → IsOk result }
         ensures last { length self.old.book.past < self.old.book.capacity → OnErr result
-            (IsUnrefused self.old.book.limits caller event (state_of self.old)) }
+            (IsUnrefused self.old.book.limits caller event.entry (state_of self.old)) }
         ensures err { OnErr result
             (self.new.book ≡ record self.old.book { capacity = self.new.book.capacity }) }
         ensures err_lists { OnErr result (self.new.lists ≡ self.old.lists) }
     {
         let alloc = self.parts.allocator();
+        let asked = event.event();
         self.history.reserve(1)?;
-        let has_room = self.alarms.make_room(&event);
+        let has_room = self.alarms.make_room(asked);
         let step = self.history.next_number();
         know_laws(&self.parts, &self.beside.lists);
-        let called = find_called(&self.parts, &event);
-        let resumed = resumed_at(&self.parts, caller, &event);
+        let called = find_called(&self.parts, asked);
+        let resumed = resumed_at(&self.parts, caller, asked);
         let request = Request {
             step,
             caller,
             kept,
             has_room,
         };
-        let outcome = act(&mut self.parts, &mut self.beside, request, &event)?;
+        let outcome = act(&mut self.parts, &mut self.beside, request, asked)?;
         self.alarms
-            .follow(&self.parts, &event, called, &outcome, has_room);
+            .follow(&self.parts, asked, called, &outcome, has_room);
         let raising = outcome.raising;
         // A copy, since the prover takes what is passed on as moved.
         let raised = raising;
@@ -241,7 +243,7 @@ impl ReadyKernel {
     {
         let again = event.copy()?;
         kept.reserve(1)?;
-        let (answer, spare) = self.try_step(caller, event, true)?;
+        let (answer, spare) = self.try_step(caller, Given::own(event), true)?;
         let Some(
             Spare {
                 answer: recorded,
@@ -288,8 +290,30 @@ impl Kernel for ReadyKernel {
             (state_of self.new) self.old.book.past self.new.book.past }
         ensures lists { ActsOnLists caller event result self.old self.new }
     {
-        match self.try_step(caller, event, false) {
+        match self.try_step(caller, Given::own(event), false) {
             Ok((answer, _)) => answer,
+            Err(_) => Answer::Refused(Errno::Enomem),
+        }
+    }
+
+    /// A step of an event that is lent, as the trait has it, with the ready lists as in `step`.
+    fn step_on(&mut self, caller: CallerId, event: &Event) -> Answer
+        ensures limits { self.new.book.limits ≡ self.old.book.limits }
+        ensures taken { self.new.book.taken ≡ self.old.book.taken }
+        ensures capacity { self.old.book.capacity ≤ self.new.book.capacity }
+        ensures spared { IsSpared (state_of self.old).files event.now → TakesNoCopy event.now
+            → length self.old.book.past < self.old.book.capacity → is_no_memory result ≡ false }
+        ensures last { TakesNoCopy event.now → length self.old.book.past < self.old.book.capacity
+            → ComesLast self.old.book.limits caller event.now result (state_of self.old) }
+        ensures acts { Acts self.old.book.limits caller event.now result (state_of self.old)
+            (state_of self.new) self.old.book.past self.new.book.past }
+        ensures lists { ActsOnLists caller event.now result self.old self.new }
+    {
+        let Ok(given) = Given::lent(event) else {
+            return Answer::Refused(Errno::Enomem);
+        };
+        match self.try_step(caller, given, false) {
+            Ok((told, _)) => told,
             Err(_) => Answer::Refused(Errno::Enomem),
         }
     }

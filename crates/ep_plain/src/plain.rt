@@ -21,7 +21,7 @@ use crate::settle::{know, rest, spread};
 use crate::these::{act_with, allows};
 use ep_alarms::{Alarms, find_called};
 use ep_base::{Answer, CallerId, EntryNumber, Errno, Event, Limits, Moment, Record};
-use ep_calls::{Kernel, Parts, Request, Spare};
+use ep_calls::{Given, Kernel, Parts, Request, Spare};
 use ep_climb::{attend, left, resumed_at};
 use ep_law::laws::{ends_are_apart, reportables_are_spread};
 use ep_order::{marked_are_looked_at, untouched_stay_reportable};
@@ -110,7 +110,7 @@ impl PlainKernel {
     fn try_step(
         &mut self,
         caller: CallerId,
-        event: Event,
+        event: Given<'_>,
         picks: Option<&[EntryNumber]>,
         kept: bool,
     ) -> Result<(Answer, Option<Spare>), AllocError>
@@ -121,34 +121,35 @@ impl PlainKernel {
         ensures taken { self.new.taken ≡ self.old.taken }
         ensures capacity { self.old.capacity ≤ self.new.capacity }
         ensures ok { IfOk result
-            (λ r. AddsBy self.old.limits caller event (option_copied picks.entry) r.0
+            (λ r. AddsBy self.old.limits caller event.entry (option_copied picks.entry) r.0
             (state_of self.old) (state_of self.new) self.old.past self.new.past) }
         ensures real { IfOk result (λ r. is_no_memory r.0 ≡ false) }
         ensures spare { IfOk result
-            (λ r. kept ≡ true → HasRecord caller event r.1 self.old.past self.new.past) }
+            (λ r. kept ≡ true → HasRecord caller event.entry r.1 self.old.past self.new.past) }
         ensures spared { option_copied picks.entry ≡ None
-            → IsSpared (state_of self.old).files event
+            → IsSpared (state_of self.old).files event.entry
             → length self.old.past < self.old.capacity → IsOk result }
         ensures last { OnErr result (length self.old.past < self.old.capacity
-            → IsUnrefused self.old.limits caller event (state_of self.old)) }
+            → IsUnrefused self.old.limits caller event.entry (state_of self.old)) }
         ensures err { OnErr result (self.new ≡ record self.old { capacity = self.new.capacity }) }
     {
         let alloc = self.parts.allocator();
+        let asked = event.event();
         self.history.reserve(1)?;
-        let has_room = self.alarms.make_room(&event);
+        let has_room = self.alarms.make_room(asked);
         let step = self.history.next_number();
         know_laws(&self.parts);
-        let called = find_called(&self.parts, &event);
-        let resumed = resumed_at(&self.parts, caller, &event);
+        let called = find_called(&self.parts, asked);
+        let resumed = resumed_at(&self.parts, caller, asked);
         let request = Request {
             step,
             caller,
             kept,
             has_room,
         };
-        let outcome = act_with(&mut self.parts, request, &event, &mut self.dating, picks)?;
+        let outcome = act_with(&mut self.parts, request, asked, &mut self.dating, picks)?;
         self.alarms
-            .follow(&self.parts, &event, called, &outcome, has_room);
+            .follow(&self.parts, asked, called, &outcome, has_room);
         let raising = outcome.raising;
         let (answer, spare) = outcome.put_record(alloc, &mut self.history, caller, event, kept);
         // A copy, since the prover takes what is passed on as moved.
@@ -204,7 +205,7 @@ impl PlainKernel {
         if !self.has_step(caller, &event, picks) {
             return None;
         }
-        match self.try_step(caller, event, Some(picks), false) {
+        match self.try_step(caller, Given::own(event), Some(picks), false) {
             Ok((answer, _)) => Some(answer),
             Err(_) => Some(Answer::Refused(Errno::Enomem)),
         }
@@ -236,7 +237,7 @@ impl PlainKernel {
     {
         let again = event.copy()?;
         kept.reserve(1)?;
-        let (answer, spare) = self.try_step(caller, event, None, true)?;
+        let (answer, spare) = self.try_step(caller, Given::own(event), None, true)?;
         let Some(
             Spare {
                 answer: recorded,
@@ -268,8 +269,18 @@ impl Kernel for PlainKernel {
     ghost capacity = { λ book. book.capacity };
 
     fn step(&mut self, caller: CallerId, event: Event) -> Answer {
-        match self.try_step(caller, event, None, false) {
+        match self.try_step(caller, Given::own(event), None, false) {
             Ok((answer, _)) => answer,
+            Err(_) => Answer::Refused(Errno::Enomem),
+        }
+    }
+
+    fn step_on(&mut self, caller: CallerId, event: &Event) -> Answer {
+        let Ok(given) = Given::lent(event) else {
+            return Answer::Refused(Errno::Enomem);
+        };
+        match self.try_step(caller, given, None, false) {
+            Ok((told, _)) => told,
             Err(_) => Answer::Refused(Errno::Enomem),
         }
     }

@@ -28,6 +28,10 @@ impl Kernel for NoMemory {
         Answer::Refused(Errno::Enomem)
     }
 
+    fn step_on(&mut self, _caller: CallerId, _event: &Event) -> Answer {
+        Answer::Refused(Errno::Enomem)
+    }
+
     fn step_kept(&mut self, _: CallerId, _: Event, _: &mut Vec<Record>) -> Answer {
         Answer::Refused(Errno::Enomem)
     }

@@ -2,17 +2,20 @@ use Rattle.std.proofs.Common.{◌≡◌, ◌+◌, ◌++◌, ◌⊎◌, [], ◌�
 use Rattle.ep_alarms.proofs.ChangesLemmas.{set_same}
 use Rattle.ep_alarms.specs.Alarms.{AreSet}
 use Rattle.ep_base.specs.declared.answer.Answer.{Answer}
+use Rattle.ep_base.specs.declared.call.Event.{Event}
 use Rattle.ep_base.specs.declared.ids.DescId.{DescId}
 use Rattle.ep_base.specs.declared.ids.EntryId.{EntryId}
 use Rattle.ep_base.specs.declared.record.Record.{Record}
 use Rattle.ep_choice.proofs.ReachedLemmas.{reached_left}
 use Rattle.ep_calls.specs.Ends.{RestsBy}
 use Rattle.ep_calls.proofs.EntryLemmas.{holds_under}
+use Rattle.ep_calls.proofs.GivenLemmas.{fits_slot}
 use Rattle.ep_calls.proofs.KeepsLemmas.{DoesAt, record_of}
 use Rattle.ep_calls.proofs.KeptLemmas.{inline_event}
 use Rattle.ep_calls.proofs.LastLemmas.{event_last}
 use Rattle.ep_calls.specs.Book.{Book, state_of}
 use Rattle.ep_calls.specs.Climb.{is_nested_key}
+use Rattle.ep_calls.specs.Given.{FitsSlot}
 use Rattle.ep_calls.specs.Keeps.{Keeps}
 use Rattle.ep_calls.specs.Kept.{KeepsEvent}
 use Rattle.ep_calls.specs.Parts.{Parts}
@@ -75,9 +78,11 @@ invariant_of-self-in_err-outcome c =
 pub returns-in_err-outcome-clause-last : goal.returns-in_err-outcome-clause-last
 returns-in_err-outcome-clause-last c =
     let k = c.self.inside in
+    let was = c.args.self.now in
     on_err c.from_residual-in_err-outcome.result
-    (λ room. subst (λ (b : Book). first (refusals b.limits (next_event (state_of b)) c.args.caller.0 c.args.event) ≡ None) c.self.view_is
-    (event_last (whole k.history) k.parts c.self.invariant.standing.keeps c.args.caller.0 c.args.event c.in_err-outcome.ensures.last))
+    (λ room. subst (λ (e : Event). first (refusals was.limits (next_event (state_of was)) c.args.caller.0 e) ≡ None) c.event-asked.ensures
+    (subst (λ (b : Book). first (refusals b.limits (next_event (state_of b)) c.args.caller.0 c.event-asked.result.now) ≡ None) c.self.view_is
+    (event_last (whole k.history) k.parts c.self.invariant.standing.keeps c.args.caller.0 c.event-asked.result.now c.in_err-outcome.ensures.last)))
 
 -- where a second record is asked for, there is a copy, or none is needed
 pub put_record-answer-requires-clause-inline : goal.put_record-answer-requires-clause-inline
@@ -87,12 +92,29 @@ put_record-answer-requires-clause-inline c asked none =
     let n : c.next_number-step.result ≡ length (whole k.history) + 1 = c.next_number-step.ensures ∙ ap (λ (h : Past). length (whole h) + 1) c.reserve.ensures.stays in
     let keeps = c.self.invariant.standing.keeps in
     let go =
-    may_report (whole k.history) k.parts keeps c.args.caller c.args.event (option_copied c.args.picks)
-    (subst (λ (b : Book). HasStep b.limits (state_of b) c.args.caller c.args.event (option_copied c.args.picks)) (sym c.self.view_is) c.requires.there) in
+    may_report (whole k.history) k.parts keeps c.args.caller c.event-asked.result.now (option_copied c.args.picks)
+    (subst (λ (b : Book). HasStep b.limits (state_of b) c.args.caller c.event-asked.result.now (option_copied c.args.picks)) (sym c.self.view_is)
+    (subst (λ (e : Event). HasStep c.args.self.now.limits (state_of c.args.self.now) c.args.caller e (option_copied c.args.picks)) (sym c.event-asked.ensures) c.requires.there)) in
     let done =
-    does_with (whole k.history) k.parts keeps c.next_number-step.result n (MayReport k.parts c.args.caller.0 c.args.event (option_copied c.args.picks)) c.args.caller.0 c.args.event o c.act_with.new.parts c.in_ok-outcome.ensures.ok go in
-    let kept : KeepsEvent c.args.event c.args.kept o = kept_of (option_copied c.args.picks) c.args.kept c.requires.kept asked c.in_ok-outcome.ensures.kept in
-    inline_event k.parts.tables.limits (next_event keeps.state) c.args.caller.0 o c.args.kept asked none c.args.event c.act_with.new.parts done.goes kept
+    does_with (whole k.history) k.parts keeps c.next_number-step.result n (MayReport k.parts c.args.caller.0 c.event-asked.result.now (option_copied c.args.picks)) c.args.caller.0 c.event-asked.result.now o c.act_with.new.parts c.in_ok-outcome.ensures.ok go in
+    let kept : KeepsEvent c.event-asked.result.now c.args.kept o = kept_of (option_copied c.args.picks) c.args.kept c.requires.kept asked c.in_ok-outcome.ensures.kept in
+    inline_event k.parts.tables.limits (next_event keeps.state) c.args.caller.0 o c.args.kept asked none c.event-asked.result.now c.act_with.new.parts done.goes kept
+
+-- a short write is answered by a number at most
+pub put_record-answer-requires-clause-slot : goal.put_record-answer-requires-clause-slot
+put_record-answer-requires-clause-slot c =
+    let k = c.self.inside in
+    let o = c.in_ok-outcome.outcome in
+    let n : c.next_number-step.result ≡ length (whole k.history) + 1 = c.next_number-step.ensures ∙ ap (λ (h : Past). length (whole h) + 1) c.reserve.ensures.stays in
+    let keeps = c.self.invariant.standing.keeps in
+    let go =
+    may_report (whole k.history) k.parts keeps c.args.caller c.event-asked.result.now (option_copied c.args.picks)
+    (subst (λ (b : Book). HasStep b.limits (state_of b) c.args.caller c.event-asked.result.now (option_copied c.args.picks)) (sym c.self.view_is)
+    (subst (λ (e : Event). HasStep c.args.self.now.limits (state_of c.args.self.now) c.args.caller e (option_copied c.args.picks)) (sym c.event-asked.ensures) c.requires.there)) in
+    let done =
+    does_with (whole k.history) k.parts keeps c.next_number-step.result n (MayReport k.parts c.args.caller.0 c.event-asked.result.now (option_copied c.args.picks)) c.args.caller.0 c.event-asked.result.now o c.act_with.new.parts c.in_ok-outcome.ensures.ok go in
+    subst (λ (e : Event). FitsSlot e o.answer o.picked) c.event-asked.ensures
+    (fits_slot k.parts.tables.limits (next_event keeps.state) c.args.caller.0 o.answer o.picked c.act_with.new.parts c.event-asked.result.now done.goes)
 
 -- What is asked of a registration that shows something, and of one with a date.
 abbrev Begins : Parts → Dating → Option DescId → List ℕ → Type 0
@@ -120,43 +142,46 @@ module _ (c : goal.After-date_all-arg-2-1) where
   number : c.next_number-step.result ≡ length past + 1
   number = c.next_number-step.ensures ∙ ap (λ (h : Past). length (whole h) + 1) c.reserve.ensures.stays
 
-  does : DoesAt (next_event begun.keeps.state) c.args.caller.0 c.args.event c.in_ok-outcome.outcome old c.act_with.new.parts
+  does : DoesAt (next_event begun.keeps.state) c.args.caller.0 c.event-asked.result.now c.in_ok-outcome.outcome old c.act_with.new.parts
   does =
-      does_with past old begun.keeps c.next_number-step.result number (MayReport old c.args.caller.0 c.args.event (option_copied c.args.picks)) c.args.caller.0 c.args.event c.in_ok-outcome.outcome c.act_with.new.parts
+      does_with past old begun.keeps c.next_number-step.result number (MayReport old c.args.caller.0 c.event-asked.result.now (option_copied c.args.picks)) c.args.caller.0 c.event-asked.result.now c.in_ok-outcome.outcome c.act_with.new.parts
       c.in_ok-outcome.ensures.ok
-      (may_report past old begun.keeps c.args.caller c.args.event (option_copied c.args.picks)
-      (subst (λ (b : Book). HasStep b.limits (state_of b) c.args.caller c.args.event (option_copied c.args.picks)) (sym c.self.view_is) c.requires.there))
+      (may_report past old begun.keeps c.args.caller c.event-asked.result.now (option_copied c.args.picks)
+      (subst (λ (b : Book). HasStep b.limits (state_of b) c.args.caller c.event-asked.result.now (option_copied c.args.picks)) (sym c.self.view_is)
+      (subst (λ (e : Event). HasStep c.args.self.now.limits (state_of c.args.self.now) c.args.caller e (option_copied c.args.picks)) (sym c.event-asked.ensures) c.requires.there)))
 
   -- the history has its record
-  history_now : c.put_record-answer.new.history.items ≡ c.self.inside.history.items ++ record_of c.args.caller c.args.event c.in_ok-outcome.outcome ∷ []
-  history_now = c.put_record-answer.ensures.items ∙ ap (λ (h : Past). h.items ++ record_of c.args.caller c.args.event c.in_ok-outcome.outcome ∷ []) c.reserve.ensures.stays
+  history_now : c.put_record-answer.new.history.items ≡ c.self.inside.history.items ++ record_of c.args.caller c.event-asked.result.now c.in_ok-outcome.outcome ∷ []
+  history_now =
+      subst (λ (e : Event). c.put_record-answer.new.history.items ≡ c.reserve.new.self.items ++ record_of c.args.caller e c.in_ok-outcome.outcome ∷ []) (sym c.event-asked.ensures) c.put_record-answer.ensures.items
+      ∙ ap (λ (h : Past). h.items ++ record_of c.args.caller c.event-asked.result.now c.in_ok-outcome.outcome ∷ []) c.reserve.ensures.stays
 
 pub date_all-requires-clause-homes : goal.date_all-requires-clause-homes
 date_all-requires-clause-homes c =
     let left = c.spread.new.parts in
-    let instances = have_instances (past c) (old c) c.act_with.new.parts left (begun c).keeps c.args.caller c.args.event c.in_ok-outcome.outcome c.next_number-step.result (number c) (does c) c.in_ok-outcome.ensures.ok.keys c.know_laws.ensures.coherent
+    let instances = have_instances (past c) (old c) c.act_with.new.parts left (begun c).keeps c.args.caller c.event-asked.result.now c.in_ok-outcome.outcome c.next_number-step.result (number c) (does c) c.in_ok-outcome.ensures.ok.keys c.know_laws.ensures.coherent
     c.spread.ensures.spreads.spreads in
     λ id x up. holds_under (λ y. is_nested_key left.tables y.instance ≡ true) left.interest id x instances up
 
 pub date_all-requires-clause-begins : goal.date_all-requires-clause-begins
 date_all-requires-clause-begins c =
-    let reported : c.as_slice.result.now ≡ c.in_ok-outcome.outcome.picked = c.as_slice.ensures ∙ c.last_picked-reported.ensures c.self.inside.history.items (record_of c.args.caller c.args.event c.in_ok-outcome.outcome) (history_now c) in
+    let reported : c.as_slice.result.now ≡ c.in_ok-outcome.outcome.picked = c.as_slice.ensures ∙ c.last_picked-reported.ensures c.self.inside.history.items (record_of c.args.caller c.event-asked.result.now c.in_ok-outcome.outcome) (history_now c) in
     let law =
-    begins_left c.know_laws.ensures.spread (past c) (old c) c.act_with.new.parts c.spread.new.parts (begun c).keeps c.args.caller c.args.event c.in_ok-outcome.outcome c.next_number-step.result (number c) (does c) c.in_ok-outcome.ensures.ok.keys c.know_laws.ensures.tables (d c)
+    begins_left c.know_laws.ensures.spread (past c) (old c) c.act_with.new.parts c.spread.new.parts (begun c).keeps c.args.caller c.event-asked.result.now c.in_ok-outcome.outcome c.next_number-step.result (number c) (does c) c.in_ok-outcome.ensures.ok.keys c.know_laws.ensures.tables (d c)
     c.act_with.new.dating c.spread.new.dating (begun c).dated c.in_ok-outcome.ensures.follows c.spread.ensures.spreads c.find_called-called.result in
     subst (λ (ks : List ℕ). Begins c.spread.new.parts c.spread.new.dating c.find_called-called.result ks) (sym reported) law
 
 pub date_all-requires-clause-ends : goal.date_all-requires-clause-ends
 date_all-requires-clause-ends c =
-    let reported : c.as_slice.result.now ≡ c.in_ok-outcome.outcome.picked = c.as_slice.ensures ∙ c.last_picked-reported.ensures c.self.inside.history.items (record_of c.args.caller c.args.event c.in_ok-outcome.outcome) (history_now c) in
+    let reported : c.as_slice.result.now ≡ c.in_ok-outcome.outcome.picked = c.as_slice.ensures ∙ c.last_picked-reported.ensures c.self.inside.history.items (record_of c.args.caller c.event-asked.result.now c.in_ok-outcome.outcome) (history_now c) in
     let law =
-    ends_left c.know_laws.ensures.stay (past c) (old c) c.act_with.new.parts c.spread.new.parts (begun c).keeps c.args.caller c.args.event c.in_ok-outcome.outcome c.next_number-step.result (number c) (does c) c.in_ok-outcome.ensures.ok.keys c.know_laws.ensures.coherent c.know_laws.ensures.tables (d c)
+    ends_left c.know_laws.ensures.stay (past c) (old c) c.act_with.new.parts c.spread.new.parts (begun c).keeps c.args.caller c.event-asked.result.now c.in_ok-outcome.outcome c.next_number-step.result (number c) (does c) c.in_ok-outcome.ensures.ok.keys c.know_laws.ensures.coherent c.know_laws.ensures.tables (d c)
     c.act_with.new.dating c.spread.new.dating (begun c).dated (begun c).ready c.in_ok-outcome.ensures.follows c.spread.ensures.spreads c.find_called-called.result c.find_called-called.ensures.called in
     subst (λ (ks : List ℕ). Ends c.spread.new.parts c.spread.new.dating c.find_called-called.result ks) (sym reported) law
 
 pub date_all-requires-clause-reported : goal.date_all-requires-clause-reported
 date_all-requires-clause-reported c id x at =
-    let reported : c.as_slice.result.now ≡ c.in_ok-outcome.outcome.picked = c.as_slice.ensures ∙ c.last_picked-reported.ensures c.self.inside.history.items (record_of c.args.caller c.args.event c.in_ok-outcome.outcome) (history_now c) in
+    let reported : c.as_slice.result.now ≡ c.in_ok-outcome.outcome.picked = c.as_slice.ensures ∙ c.last_picked-reported.ensures c.self.inside.history.items (record_of c.args.caller c.event-asked.result.now c.in_ok-outcome.outcome) (history_now c) in
     ap (λ (ks : List ℕ). is_among ks x.number) reported
     ∙ reported_left c.next_number-step.result c.in_ok-outcome.outcome.raising c.act_with.new.parts c.spread.new.parts c.spread.ensures.spreads.spreads c.in_ok-outcome.outcome.picked c.in_ok-outcome.ensures.follows.told id x at
 
@@ -174,14 +199,15 @@ module _ (c : goal.After-rest-arg-2-1) where
   n_is : c.next_number-step.result ≡ length (whole k.history) + 1
   n_is = c.next_number-step.ensures ∙ ap (λ (h : Past). length (whole h) + 1) c.reserve.ensures.stays
 
-  done : DoesAt (next_event keeps.state) c.args.caller.0 c.args.event outcome k.parts c.act_with.new.parts
+  done : DoesAt (next_event keeps.state) c.args.caller.0 c.event-asked.result.now outcome k.parts c.act_with.new.parts
   done =
-      does_with (whole k.history) k.parts keeps c.next_number-step.result n_is (MayReport k.parts c.args.caller.0 c.args.event (option_copied c.args.picks)) c.args.caller.0 c.args.event outcome c.act_with.new.parts c.in_ok-outcome.ensures.ok
-      (may_report (whole k.history) k.parts keeps c.args.caller c.args.event (option_copied c.args.picks)
-      (subst (λ (b : Book). HasStep b.limits (state_of b) c.args.caller c.args.event (option_copied c.args.picks)) (sym c.self.view_is) c.requires.there))
+      does_with (whole k.history) k.parts keeps c.next_number-step.result n_is (MayReport k.parts c.args.caller.0 c.event-asked.result.now (option_copied c.args.picks)) c.args.caller.0 c.event-asked.result.now outcome c.act_with.new.parts c.in_ok-outcome.ensures.ok
+      (may_report (whole k.history) k.parts keeps c.args.caller c.event-asked.result.now (option_copied c.args.picks)
+      (subst (λ (b : Book). HasStep b.limits (state_of b) c.args.caller c.event-asked.result.now (option_copied c.args.picks)) (sym c.self.view_is)
+      (subst (λ (e : Event). HasStep c.args.self.now.limits (state_of c.args.self.now) c.args.caller e (option_copied c.args.picks)) (sym c.event-asked.ensures) c.requires.there)))
 
   -- what is attended
-  attended : c.attend-attended.result ≡ attends (left_at c.spread.new.parts.parked c.args.caller.0 (resumed_at k.parts.parked c.args.caller.0 c.args.event)) outcome.raising
+  attended : c.attend-attended.result ≡ attends (left_at c.spread.new.parts.parked c.args.caller.0 (resumed_at k.parts.parked c.args.caller.0 c.event-asked.result.now)) outcome.raising
   attended =
       c.attend-attended.ensures
       ∙ ap (λ (o : Option DescId). attends o outcome.raising) (c.left.ensures ∙ ap (left_at c.spread.new.parts.parked c.args.caller.0) c.resumed_at-resumed.ensures)
@@ -191,12 +217,12 @@ module _ (c : goal.After-rest-arg-2-1) where
   lost_now =
       let first : NotesLost k.parts c.act_with.new.parts [] c.act_with.new.dating.choice.lost.reached =
       subst (λ (ks : List ℕ). NotesLost k.parts c.act_with.new.parts ks c.act_with.new.dating.choice.lost.reached) c.self.invariant.standing.unlost c.in_ok-outcome.ensures.follows.lost in
-      notes_event (whole k.history) k.parts c.act_with.new.parts c.spread.new.parts keeps c.args.caller c.args.event outcome c.next_number-step.result n_is done c.in_ok-outcome.ensures.ok.keys c.know_laws.ensures.coherent
+      notes_event (whole k.history) k.parts c.act_with.new.parts c.spread.new.parts keeps c.args.caller c.event-asked.result.now outcome c.next_number-step.result n_is done c.in_ok-outcome.ensures.ok.keys c.know_laws.ensures.coherent
       c.spread.ensures.spreads.spreads c.act_with.new.dating.choice.lost.reached c.spread.new.dating.choice.lost.reached first c.spread.ensures.spreads.lost
 
 pub rest-requires-clause-instances : goal.rest-requires-clause-instances
 rest-requires-clause-instances c =
-    have_instances (whole (k c).history) (k c).parts c.act_with.new.parts c.spread.new.parts (keeps c) c.args.caller c.args.event (outcome c) c.next_number-step.result (n_is c) (done c) c.in_ok-outcome.ensures.ok.keys c.know_laws.ensures.coherent
+    have_instances (whole (k c).history) (k c).parts c.act_with.new.parts c.spread.new.parts (keeps c) c.args.caller c.event-asked.result.now (outcome c) c.next_number-step.result (n_is c) (done c) c.in_ok-outcome.ensures.ok.keys c.know_laws.ensures.coherent
     c.spread.ensures.spreads.spreads
 
 pub rest-requires-clause-reached : goal.rest-requires-clause-reached
@@ -209,7 +235,7 @@ pub rest-requires-clause-looked : goal.rest-requires-clause-looked
 rest-requires-clause-looked c =
     let q = c.spread.new.parts in
     let looked =
-    looked_at (whole (k c).history) (k c).parts c.act_with.new.parts q (keeps c) c.args.caller c.args.event (outcome c) c.next_number-step.result (n_is c) (done c) c.in_ok-outcome.ensures.ok.keys c.know_laws.ensures.coherent
+    looked_at (whole (k c).history) (k c).parts c.act_with.new.parts q (keeps c) c.args.caller c.event-asked.result.now (outcome c) c.next_number-step.result (n_is c) (done c) c.in_ok-outcome.ensures.ok.keys c.know_laws.ensures.coherent
     c.spread.ensures.spreads.spreads c.know_laws.ensures.looked c.spread.new.dating.choice.lost.reached (lost_now c) in
     subst (λ (w : Choice). AreLookedAt c.next_number-step.result q w.lost.reached c.attend-attended.result) (sym c.date_all.ensures.choice)
     (subst (AreLookedAt c.next_number-step.result q c.spread.new.dating.choice.lost.reached) (sym (attended c)) looked)
@@ -232,20 +258,21 @@ module _ (c : goal.After-rest) where
   number_then = c.next_number-step.ensures ∙ ap (λ (h : Past). length (whole h) + 1) c.reserve.ensures.stays
 
   -- the machine has a step that reports what is given
-  may : MayReport first_parts c.args.caller.0 c.args.event (option_copied c.args.picks) (next_event standing.keeps.state)
+  may : MayReport first_parts c.args.caller.0 c.event-asked.result.now (option_copied c.args.picks) (next_event standing.keeps.state)
   may =
-      may_report before first_parts standing.keeps c.args.caller c.args.event (option_copied c.args.picks)
-      (subst (λ (b : Book). HasStep b.limits (state_of b) c.args.caller c.args.event (option_copied c.args.picks)) (sym c.self.view_is) c.requires.there)
+      may_report before first_parts standing.keeps c.args.caller c.event-asked.result.now (option_copied c.args.picks)
+      (subst (λ (b : Book). HasStep b.limits (state_of b) c.args.caller c.event-asked.result.now (option_copied c.args.picks)) (sym c.self.view_is)
+      (subst (λ (e : Event). HasStep c.args.self.now.limits (state_of c.args.self.now) c.args.caller e (option_copied c.args.picks)) (sym c.event-asked.ensures) c.requires.there))
 
-  does_then : DoesAt (next_event standing.keeps.state) c.args.caller.0 c.args.event c.in_ok-outcome.outcome first_parts c.act_with.new.parts
+  does_then : DoesAt (next_event standing.keeps.state) c.args.caller.0 c.event-asked.result.now c.in_ok-outcome.outcome first_parts c.act_with.new.parts
   does_then =
-      does_with before first_parts standing.keeps c.next_number-step.result number_then (MayReport first_parts c.args.caller.0 c.args.event (option_copied c.args.picks)) c.args.caller.0 c.args.event c.in_ok-outcome.outcome c.act_with.new.parts
+      does_with before first_parts standing.keeps c.next_number-step.result number_then (MayReport first_parts c.args.caller.0 c.event-asked.result.now (option_copied c.args.picks)) c.args.caller.0 c.event-asked.result.now c.in_ok-outcome.outcome c.act_with.new.parts
       c.in_ok-outcome.ensures.ok may
 
   -- what is attended
   rests : RestsBy
       (gets_mark_key c.next_number-step.result c.spread.new.parts
-      (attend_of before first_parts c.act_with.new.parts c.spread.new.parts standing.keeps c.args.caller c.args.event c.in_ok-outcome.outcome c.next_number-step.result number_then does_then c.in_ok-outcome.ensures.ok.keys c.know_laws.ensures.coherent
+      (attend_of before first_parts c.act_with.new.parts c.spread.new.parts standing.keeps c.args.caller c.event-asked.result.now c.in_ok-outcome.outcome c.next_number-step.result number_then does_then c.in_ok-outcome.ensures.ok.keys c.know_laws.ensures.coherent
       c.spread.ensures.spreads.spreads))
       c.spread.new.parts c.rest.new.parts
   rests =
@@ -255,22 +282,23 @@ module _ (c : goal.After-rest) where
       subst (λ (o : Option DescId). RestsBy (gets_mark_key c.next_number-step.result left o) left c.rest.new.parts) attended c.rest.ensures.rests
 
   -- the history has its record
-  records : whole c.put_record-answer.new.history ≡ before ++ record_of c.args.caller c.args.event c.in_ok-outcome.outcome ∷ []
+  records : whole c.put_record-answer.new.history ≡ before ++ record_of c.args.caller c.event-asked.result.now c.in_ok-outcome.outcome ∷ []
   records =
-      whole_added c.reserve.new.self c.put_record-answer.new.history (record_of c.args.caller c.args.event c.in_ok-outcome.outcome ∷ []) c.put_record-answer.ensures.taken c.put_record-answer.ensures.items
-      ∙ ap (λ (h : Past). whole h ++ record_of c.args.caller c.args.event c.in_ok-outcome.outcome ∷ []) c.reserve.ensures.stays
+      whole_added c.reserve.new.self c.put_record-answer.new.history (record_of c.args.caller c.event-asked.result.now c.in_ok-outcome.outcome ∷ []) c.put_record-answer.ensures.taken
+      (subst (λ (e : Event). c.put_record-answer.new.history.items ≡ c.reserve.new.self.items ++ record_of c.args.caller e c.in_ok-outcome.outcome ∷ []) (sym c.event-asked.ensures) c.put_record-answer.ensures.items)
+      ∙ ap (λ (h : Past). whole h ++ record_of c.args.caller c.event-asked.result.now c.in_ok-outcome.outcome ∷ []) c.reserve.ensures.stays
 
 pub invariant_of-self-2 : goal.invariant_of-self-2
 invariant_of-self-2 c =
     let q = c.spread.new.parts in
     let shows = entry_shows (readiness q.tables q.clock q.interest) q.tables q.clock in
-    let from = dates_from (before c) (first_parts c) c.act_with.new.parts q (first_dating c) c.act_with.new.dating c.spread.new.dating c.date_all.new.dating (standing c) c.args.caller c.args.event c.in_ok-outcome.outcome c.next_number-step.result (number_then c) (does_then c)
+    let from = dates_from (before c) (first_parts c) c.act_with.new.parts q (first_dating c) c.act_with.new.dating c.spread.new.dating c.date_all.new.dating (standing c) c.args.caller c.event-asked.result.now c.in_ok-outcome.outcome c.next_number-step.result (number_then c) (does_then c)
     c.in_ok-outcome.ensures.follows c.spread.ensures.spreads shows c.date_all.ensures.dates in
     let order = c.date_all.ensures.order
-    (order_left (before c) (first_parts c) c.act_with.new.parts q (first_dating c) c.act_with.new.dating c.spread.new.dating c.date_all.new.dating (standing c) c.args.caller c.args.event c.in_ok-outcome.outcome c.next_number-step.result (number_then c) (does_then c)
+    (order_left (before c) (first_parts c) c.act_with.new.parts q (first_dating c) c.act_with.new.dating c.spread.new.dating c.date_all.new.dating (standing c) c.args.caller c.event-asked.result.now c.in_ok-outcome.outcome c.next_number-step.result (number_then c) (does_then c)
     c.in_ok-outcome.ensures.follows c.spread.ensures.spreads) in
     let next =
-    standing_next (before c) (first_parts c) c.act_with.new.parts q (first_dating c) c.act_with.new.dating c.spread.new.dating c.date_all.new.dating (standing c) c.args.caller c.args.event c.in_ok-outcome.outcome c.next_number-step.result (number_then c) (does_then c)
+    standing_next (before c) (first_parts c) c.act_with.new.parts q (first_dating c) c.act_with.new.dating c.spread.new.dating c.date_all.new.dating (standing c) c.args.caller c.event-asked.result.now c.in_ok-outcome.outcome c.next_number-step.result (number_then c) (does_then c)
     c.in_ok-outcome.ensures.follows c.spread.ensures.spreads c.in_ok-outcome.ensures.ok.keys c.know_laws.ensures.coherent c.rest.new.parts (rests c) from c.date_all.ensures.ready c.date_all.ensures.fits order
     c.rest.new.dating c.rest.ensures.dates c.rest.ensures.fits c.rest.ensures.unlost in
     record {
@@ -284,11 +312,12 @@ returns-clause-ok c =
     let outcome = c.in_ok-outcome.outcome in
     let given = option_copied c.args.picks in
     let new : Book = record { limits = c.rest.new.parts.tables.limits; past = whole c.put_record-answer.new.history; taken = c.put_record-answer.new.history.taken; capacity = length (whole c.put_record-answer.new.history) + c.put_record-answer.new.history.room } in
-    let told = reports (before c) (first_parts c) (standing c).keeps c.args.caller c.args.event c.next_number-step.result (number_then c) given outcome.picked (may c) c.in_ok-outcome.ensures.picked in
+    let told = reports (before c) (first_parts c) (standing c).keeps c.args.caller c.event-asked.result.now c.next_number-step.result (number_then c) given outcome.picked (may c) c.in_ok-outcome.ensures.picked in
     let adds =
-    adds_by (before c) (first_parts c) c.act_with.new.parts c.spread.new.parts (first_dating c) c.act_with.new.dating c.spread.new.dating c.date_all.new.dating (standing c) c.args.caller c.args.event outcome c.next_number-step.result (number_then c) (does_then c)
+    adds_by (before c) (first_parts c) c.act_with.new.parts c.spread.new.parts (first_dating c) c.act_with.new.dating c.spread.new.dating c.date_all.new.dating (standing c) c.args.caller c.event-asked.result.now outcome c.next_number-step.result (number_then c) (does_then c)
     c.in_ok-outcome.ensures.follows c.spread.ensures.spreads c.in_ok-outcome.ensures.ok.keys c.know_laws.ensures.coherent c.rest.new.parts (rests c) given told in
     let was = c.args.self.now in
-    subst (λ (a : Answer). AddsBy was.limits c.args.caller c.args.event given a (state_of was) (state_of new) was.past new.past) (sym c.put_record-answer.ensures.answer)
-    (subst (λ (b : Book). AddsBy b.limits c.args.caller c.args.event given outcome.answer (state_of b) (state_of new) b.past new.past) c.self.view_is
-    (subst (λ (rs : List Record). AddsBy k.parts.tables.limits c.args.caller c.args.event given outcome.answer (state_of (book_of k)) (state_of (record new { past = rs })) (whole k.history) rs) (sym (records c)) adds))
+    subst (λ (e : Event). AddsBy was.limits c.args.caller e given c.put_record-answer.result.0 (state_of was) (state_of new) was.past new.past) c.event-asked.ensures
+    (subst (λ (a : Answer). AddsBy was.limits c.args.caller c.event-asked.result.now given a (state_of was) (state_of new) was.past new.past) (sym c.put_record-answer.ensures.answer)
+    (subst (λ (b : Book). AddsBy b.limits c.args.caller c.event-asked.result.now given outcome.answer (state_of b) (state_of new) b.past new.past) c.self.view_is
+    (subst (λ (rs : List Record). AddsBy k.parts.tables.limits c.args.caller c.event-asked.result.now given outcome.answer (state_of (book_of k)) (state_of (record new { past = rs })) (whole k.history) rs) (sym (records c)) adds)))
