@@ -49,8 +49,8 @@ fn run_on<K: Kernel>(
         return Err(Fault::Memory);
     };
     kernel.reserve(calls)?;
-    let before = make_all(kernel, setup)?;
-    let refused = before + make_rounds(kernel, round, asked.rounds)?;
+    let before = make_all(kernel, setup);
+    let refused = before + make_rounds(kernel, round, asked.rounds);
     Ok(Counts { calls, refused })
 }
 
