@@ -13,6 +13,8 @@ mod history;
 #[cfg(test)]
 mod kernels;
 #[cfg(test)]
+mod lent;
+#[cfg(test)]
 mod lists;
 #[cfg(test)]
 mod memory;

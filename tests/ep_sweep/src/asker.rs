@@ -2,7 +2,7 @@
 
 use crate::fault::Fault;
 use crate::seen::{Seen, records_of};
-use crate::spared::is_spared;
+use crate::spared::{is_copied, is_spared};
 use ep_base::{Answer, CallerId, Event, Record};
 use ep_plain::Kernel;
 use ep_text::{Version, push_answer, read_header, read_line};
@@ -23,6 +23,15 @@ pub(crate) enum Way {
     Kept,
     /// By `step`, once there is room for its record.
     Reserved,
+    /// By `step_on`, once there is room for its record.
+    Lent,
+}
+
+impl Way {
+    /// Whether there is room for the record of each line before it is asked.
+    fn has_room(self) -> bool {
+        matches!(self, Way::Reserved | Way::Lent)
+    }
 }
 
 /// How many lines were answered, and how often one was answered ENOMEM before.
@@ -97,7 +106,8 @@ impl Asker {
     fn step<K: Kernel>(&mut self, kernel: &mut K, caller: CallerId, event: Event) -> Answer {
         match self.way {
             Way::Kept => kernel.step_kept(caller, event, &mut self.kept),
-            _ => kernel.step(caller, event),
+            Way::Lent => kernel.step_on(caller, &event),
+            Way::Step | Way::Reserved => kernel.step(caller, event),
         }
     }
 
@@ -113,7 +123,7 @@ impl Asker {
         if Seen::of(kernel) != *before || self.kept.len() != kept {
             return Err(Fault::Changed(self.place));
         }
-        if is_spared && self.way == Way::Reserved {
+        if is_spared && self.way.has_room() {
             return Err(Fault::Spared(self.place));
         }
         Ok(())
@@ -154,12 +164,13 @@ impl Asker {
             let Some((caller, event)) = read_line(self.alloc, self.version, line.as_bytes())? else {
                 return Ok(());
             };
-            if self.way == Way::Reserved {
+            if self.way.has_room() {
                 self.reserve(kernel, 1)?;
             }
             let before = Seen::of(kernel);
             let kept = self.kept.len();
-            let spared = is_spared(&event) || wanted.starts_with(REFUSAL);
+            let copies = self.way == Way::Lent && is_copied(&event);
+            let spared = !copies && (is_spared(&event) || wanted.starts_with(REFUSAL));
             let answer = self.step(kernel, caller, event);
             if !answer.is_no_memory() {
                 return self.judge(kernel, &before, &answer, wanted);

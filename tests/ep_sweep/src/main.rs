@@ -6,6 +6,8 @@
 //! - `KERNEL kept NAME`: the same by `step_kept`
 //! - `KERNEL reserved NAME`: the same, with room for each record; then ENOMEM answers no event that needs nothing else,
 //!   and none that is refused
+//! - `KERNEL lent NAME`: the same by `step_on`, with room for each record; then ENOMEM answers a write of more than 16
+//!   bytes, too, and else none of those
 //! - `KERNEL room`: `reserve` of too much, and of five records for five events behind records that are taken out
 //! - `KERNEL sessions`: two sessions in one thread
 //! - `KERNEL threads`: two sessions with a thread each
@@ -51,7 +53,7 @@ const TRIES: u32 = 3;
 const KERNELS: [&str; 2] = ["plain", "ready"];
 
 /// How a script is asked.
-const WAYS: [&str; 3] = ["step", "kept", "reserved"];
+const WAYS: [&str; 4] = ["step", "kept", "reserved", "lent"];
 
 /// What else is asked.
 const PARTS: [&str; 3] = ["room", "sessions", "threads"];
@@ -62,6 +64,7 @@ fn way_of(word: &str) -> Result<Way, Fault> {
         "step" => Ok(Way::Step),
         "kept" => Ok(Way::Kept),
         "reserved" => Ok(Way::Reserved),
+        "lent" => Ok(Way::Lent),
         _ => Err(Fault::Words),
     }
 }

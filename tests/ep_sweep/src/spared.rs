@@ -2,7 +2,7 @@
 
 use ep_base::{Call, Event};
 
-/// A read of so many bytes takes no memory.
+/// A read of so many bytes takes no memory, and a write of so many isn't copied.
 const SHORT: u32 = 16;
 
 /// Whether an event needs nothing but its record, whatever the kernel holds.
@@ -25,6 +25,17 @@ fn is_spared_call(call: &Call) -> bool {
         | Call::Close { .. }
         | Call::Exec
         | Call::Exit => true,
+        _ => false,
+    }
+}
+
+/// Whether an event of a process below 2^32 is copied if it is lent.
+pub(crate) fn is_copied(event: &Event) -> bool {
+    match event {
+        Event::Call {
+            pid: _,
+            call: Call::Write { bytes, .. },
+        } => bytes.len() > SHORT as usize,
         _ => false,
     }
 }
