@@ -8,8 +8,17 @@ use crate::pack::number_of;
 use crate::slot::{BLANK, Kind, Slot, What};
 use ep_base::{Answer, Call, CallerId, Content, EntryNumber, Event, Record, Report};
 
-/// A record of so few reports keeps its own lists of them, which costs less than to copy and free them.
-const FEW_REPORTS: usize = 8;
+/// So few reports are copied beside the slots at once. A record that stands whole would take some 250 bytes for them.
+const FEW_REPORTS: usize = 4;
+
+/// A record of more reports than those, and not of more than so many, keeps its own lists of them, which costs less
+/// than to copy and free them.
+const SOME_REPORTS: usize = 8;
+
+/// Whether so many reports of a record go beside its slot.
+fn goes_beside(count: usize) -> bool {
+    count <= FEW_REPORTS || count > SOME_REPORTS
+}
 
 /// As many bytes of one record are put beside the slots. A read or write of more keeps its own buffer, since to copy
 /// that costs more than it saves.
@@ -18,7 +27,7 @@ const MOST_BYTES: usize = 256;
 /// How many reports of a record go beside its slot.
 pub(crate) fn listed_reports(one: &Record) -> usize {
     let count = one.picked.as_slice().len();
-    if count > FEW_REPORTS { count } else { 0 }
+    if goes_beside(count) { count } else { 0 }
 }
 
 /// How many bytes of a record go beside its slot.
@@ -200,7 +209,7 @@ impl History {
     }
 
     /// The record of a read that gives many bytes.
-    fn push_given(&mut self, caller: CallerId, event: &Event, bytes: &[u8]) -> bool
+    fn push_long_read(&mut self, caller: CallerId, event: &Event, bytes: &[u8]) -> bool
         requires { 0 < self.old.room }
         ensures pushed { IsTrue result → self.new.items ≡ self.old.items
             ++ made caller event.now (Answer.Bytes bytes.now) ∷ [] }
@@ -285,11 +294,11 @@ impl History {
     {
         match answer {
             Answer::Events(reports) => {
-                picked.len() > FEW_REPORTS
+                goes_beside(picked.len())
                     && self.push_told(caller, event, reports.as_slice(), picked)
             }
             Answer::Bytes(bytes) => {
-                picked.is_empty() && self.push_given(caller, event, bytes.as_slice())
+                picked.is_empty() && self.push_long_read(caller, event, bytes.as_slice())
             }
             Answer::Num(taken) => picked.is_empty() && self.push_taken(caller, event, *taken),
             _ => false,
