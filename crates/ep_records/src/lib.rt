@@ -2,6 +2,7 @@
 #![tactic(auto)]
 
 mod beside;
+mod common;
 mod entry;
 mod history;
 mod iter;

@@ -263,7 +263,13 @@ impl Slot {
 
     /// A write.
     #[inline(always)]
-    fn write(caller: CallerId, pid: u32, fd: Fd, bytes: &Buffer, answer: &Answer) -> Option<Slot>
+    pub(crate) fn write(
+        caller: CallerId,
+        pid: u32,
+        fd: Fd,
+        bytes: &Buffer,
+        answer: &Answer,
+    ) -> Option<Slot>
         ensures is { IfSome result
             (λ s. record_in s ≡ Some (quiet caller pid (write_call fd bytes.now) answer.now)) }
         ensures short { length bytes.now ≤ 16 → IsBrief answer.now → IsSome result }
@@ -298,6 +304,28 @@ impl Slot {
         }
     }
 
+    /// A read that gives these bytes.
+    #[inline(always)]
+    pub(crate) fn giving(caller: CallerId, pid: u32, fd: Fd, n: u32, list: &[u8]) -> Option<Slot>
+        ensures is { IfSome result (λ s. record_in s
+            ≡ Some (quiet caller pid (read_call fd n) (Answer.Bytes list.now))) }
+        ensures short { length list.now ≤ 16 → IsSome result }
+    {
+        let words = Words::of(list)?;
+        Some(Slot {
+            caller,
+            pid,
+            fd,
+            kind: Kind::Read,
+            what: What::Bytes,
+            n,
+            count: list.len() as u8,
+            x: words.x,
+            y: words.y,
+            ..BLANK
+        })
+    }
+
     /// A read.
     #[inline(always)]
     fn read(caller: CallerId, pid: u32, fd: Fd, n: u32, answer: &Answer) -> Option<Slot>
@@ -314,17 +342,7 @@ impl Slot {
             ..BLANK
         };
         match answer {
-            Answer::Bytes(bytes) => {
-                let list = bytes.as_slice();
-                let words = Words::of(list)?;
-                Some(Slot {
-                    what: What::Bytes,
-                    count: list.len() as u8,
-                    x: words.x,
-                    y: words.y,
-                    ..slot
-                })
-            }
+            Answer::Bytes(bytes) => Slot::giving(caller, pid, fd, n, bytes.as_slice()),
             _ => slot.answered(answer),
         }
     }
@@ -543,7 +561,7 @@ impl Slot {
 
     /// An event that makes this report.
     #[inline(always)]
-    fn reporting(
+    pub(crate) fn reporting(
         caller: CallerId,
         event: &Event,
         report: Report,
