@@ -124,13 +124,11 @@ impl Outcome {
             copies,
             ..
         } = self;
-        let answer = answer.into_answer(alloc);
-        if history.push_short(caller, event.event(), &answer, picked.as_slice()) {
-            return (answer, None);
+        if answer.put_common(history, caller, event.event(), &picked) {
+            return (answer.into_answer(alloc), None);
         }
         let rest = Rest { picked, copies };
-        rest.put_whole(alloc, history, caller, event, &answer);
-        (answer, None)
+        (rest.put_other(alloc, history, caller, event, answer), None)
     }
 
     /// The same if a second record is asked for.
@@ -192,6 +190,38 @@ struct Rest {
 }
 
 impl Rest {
+    /// Puts the record of an event that is none of the common ones at the end of a history that has room for it, and
+    /// makes the answer of the reply.
+    #[inline(always)]
+    fn put_other(
+        self,
+        alloc: Global,
+        history: &mut History,
+        caller: CallerId,
+        event: Given<'_>,
+        reply: Reply,
+    ) -> Answer
+        requires inline { IsInlineWithout self.copies reply }
+        requires recorded { ForSome self.copies (λ made. made.value.recorded ≡ reply) }
+        requires slot { FitsSlot event reply self.picked }
+        requires room { 0 < history.old.room }
+        ensures answer { result ≡ reply }
+        ensures items { history.new.items ≡ history.old.items ++ record {
+          caller = caller;
+          event = event.entry;
+          answer = reply;
+          picked = self.picked;
+        } ∷ [] }
+        ensures room { history.old.room ≤ history.new.room + 1 }
+        ensures taken { history.new.taken ≡ history.old.taken }
+    {
+        let answer = reply.into_answer(alloc);
+        if !history.push_short(caller, event.event(), &answer, self.picked.as_slice()) {
+            self.put_whole(alloc, history, caller, event, &answer);
+        }
+        answer
+    }
+
     /// Puts the record of an event that isn't short at the end of a history that has room for it. It stands apart from
     /// the ways of short ones, since whatever a function names it clears, also if it goes another way.
     #[cold]

@@ -1,5 +1,5 @@
 //! The registrations that an event reports, as they go through a kernel.
-ghost use Rattle.std.specs.Prelude.{◌≡◌, ◌∷◌, []};
+ghost use Rattle.std.specs.Prelude.{◌≡◌, ◌∷◌, [], IfSome, true};
 
 use ep_base::{EntryNumber, Picked};
 use smallvec::SmallVec;
@@ -59,6 +59,25 @@ impl Picks {
         Picks {
             few: Few::Many(picked),
         }
+    }
+
+    /// The number of the registration, if there is one and no other.
+    #[inline(always)]
+    pub fn only(&self) -> Option<EntryNumber>
+        ensures { IfSome result (λ n. self.now ≡ n ∷ []) }
+    {
+        match &self.few {
+            Few::One(number) => Some(*number),
+            _ => None,
+        }
+    }
+
+    /// Whether there is no registration. `false` of a box, whatever it has.
+    #[inline(always)]
+    pub fn is_none(&self) -> bool
+        ensures { result ≡ true → self.now ≡ [] }
+    {
+        matches!(self.few, Few::None)
     }
 
     /// The numbers as a slice.

@@ -1,9 +1,11 @@
 //! Answers in few bytes, as they go through a kernel.
-ghost use Rattle.std.specs.Prelude.{◌≡◌, ◌∷◌, []};
+ghost use Rattle.std.specs.Prelude.{◌≡◌, ◌+◌, ◌<◌, ◌≤◌, ◌++◌, ◌∷◌, [], IsFalse, IsTrue};
 ghost use Rattle.ep_base.specs.declared.answer.Answer.TheVariants.{Events};
 ghost use Rattle.ep_calls.specs.Reply.{IsSilent, number_in};
 
-use ep_base::{Answer, Bytes, Errno, Fd, Report, Reports, Span};
+use crate::picks::Picks;
+use ep_base::{Answer, Bytes, CallerId, Errno, Event, Fd, Report, Reports, Span};
+use ep_records::History;
 use smallvec::SmallVec;
 use std::alloc::Global;
 use std::marker::Model;
@@ -89,6 +91,43 @@ impl Reply {
         match &self.kept {
             Kept::Num(number) => Some(*number),
             _ => None,
+        }
+    }
+
+    /// Puts the record of the event that it answers at the end of a history that has room for it, if the event is a
+    /// common one: a short read or write, or a wait of one report. Else `false`, and nothing changes. It takes no
+    /// memory, and makes no answer.
+    #[inline(always)]
+    pub fn put_common(
+        &self,
+        history: &mut History,
+        caller: CallerId,
+        event: &Event,
+        picked: &Picks,
+    ) -> bool
+        requires { 0 < history.old.room }
+        ensures put { IsTrue result → history.new.items ≡ history.old.items ++ record {
+          caller = caller;
+          event = event.now;
+          answer = self.now;
+          picked = picked.now;
+        } ∷ [] }
+        ensures other { IsFalse result → history.new ≡ history.old }
+        ensures room { history.old.room ≤ history.new.room + 1 }
+        ensures taken { history.new.taken ≡ history.old.taken }
+    {
+        match &self.kept {
+            Kept::Num(written) => {
+                picked.is_none() && history.push_written(caller, event, *written)
+            }
+            Kept::Bytes(given) => {
+                picked.is_none() && history.push_given(caller, event, given.as_slice())
+            }
+            Kept::OneReport(report) => match picked.only() {
+                Some(number) => history.push_report(caller, event, *report, number),
+                None => false,
+            },
+            _ => false,
         }
     }
 
