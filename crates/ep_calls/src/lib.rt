@@ -30,6 +30,7 @@ pub use crate::copies::Copies;
 pub use crate::given::Given;
 pub use crate::kernel::Kernel;
 pub use crate::outcome::Outcome;
+pub use crate::parking::is_parked;
 pub use crate::parts::Parts;
 pub use crate::picks::Picks;
 pub use crate::raising::Raising;

@@ -21,6 +21,14 @@ use ep_park::{Park, Waiter, is_due};
 use ep_table::Tables;
 use std::alloc::AllocError;
 
+/// Whether a caller is parked. If nobody is, no table is looked into.
+#[inline(always)]
+pub fn is_parked(waiters: &Park, caller: CallerId) -> bool
+    ensures { result ≡ list_any (is_caller caller.0) waiters.now }
+{
+    waiters.count() > 0 && waiters.is_parked(caller)
+}
+
 /// Parks a caller, and holds the instance for it. An `Err` is want of memory and leaves both.
 pub fn park(
     tables: &mut Tables,

@@ -17,7 +17,7 @@ use crate::beside::Beside;
 use crate::control::epoll_ctl;
 use crate::wait::{epoll_wait, resume};
 use ep_base::{Call, Errno, Event, Pid};
-use ep_calls::{Control, Outcome, Parts, Request, Wait};
+use ep_calls::{Control, Outcome, Parts, Request, Wait, is_parked};
 use std::alloc::AllocError;
 
 /// A call of a process that is there.
@@ -114,7 +114,7 @@ pub fn act(
             if !parts.tables.has_process(*pid) {
                 return Ok(Outcome::refused(Errno::Esrch));
             }
-            if parts.waiters.is_parked(request.caller) {
+            if is_parked(&parts.waiters, request.caller) {
                 return Ok(Outcome::refused(Errno::Ebusy));
             }
             make_call(parts, beside, request, *pid, call)

@@ -18,7 +18,7 @@ use crate::control::epoll_ctl;
 use crate::dating::Dating;
 use crate::wait::{epoll_wait, resume};
 use ep_base::{Call, Errno, Event, Pid};
-use ep_calls::{Control, Outcome, Parts, Request, Wait};
+use ep_calls::{Control, Outcome, Parts, Request, Wait, is_parked};
 use std::alloc::AllocError;
 
 /// A call of a process that is there. An `Err` is want of memory, or of room for what it would add. It leaves the
@@ -118,7 +118,7 @@ pub fn act(
             if !parts.tables.has_process(*pid) {
                 return Ok(Outcome::refused(Errno::Esrch));
             }
-            if parts.waiters.is_parked(request.caller) {
+            if is_parked(&parts.waiters, request.caller) {
                 return Ok(Outcome::refused(Errno::Ebusy));
             }
             make_call(parts, request, *pid, call, dating)
