@@ -13,6 +13,8 @@ use ep_nest::Graph;
 use ep_table::Tables;
 
 /// Ends the descriptions that wait for it, one after another.
+#[cold]
+#[inline(never)]
 fn end_each(tables: &mut Tables, interest: &mut Interest, graph: &mut Graph, step: EventNumber)
     requires { AreLinked tables.old interest.old }
     ensures buries { Buries step tables.old interest.old tables.new interest.new }
@@ -38,8 +40,24 @@ fn end_each(tables: &mut Tables, interest: &mut Interest, graph: &mut Graph, ste
     }
 }
 
+/// The same. In most events there is none, and then nothing is called.
+#[inline(always)]
+fn end_dying(tables: &mut Tables, interest: &mut Interest, graph: &mut Graph, step: EventNumber)
+    requires { AreLinked tables.old interest.old }
+    ensures buries { Buries step tables.old interest.old tables.new interest.new }
+    ensures none { tables.new.dying ≡ [] }
+    ensures ids { KeepsIds interest.old interest.new }
+    ensures nested { KeepsLinks interest.old graph.old interest.new graph.new }
+{
+    let Some(_) = tables.dying().next() else {
+        return;
+    };
+    end_each(tables, interest, graph, step);
+}
+
 impl Parts {
     /// Ends each description that no descriptor names any more, and takes its registrations and those in it away.
+    #[inline(always)]
     pub fn bury(&mut self, step: EventNumber)
         ensures burial { Burial step self.old.tables self.old.interest self.new.tables
             self.new.interest }
@@ -48,7 +66,7 @@ impl Parts {
         ensures clock { self.new.clock ≡ self.old.clock }
     {
         self.tables.known();
-        end_each(&mut self.tables, &mut self.interest, &mut self.graph, step);
+        end_dying(&mut self.tables, &mut self.interest, &mut self.graph, step);
         self.tables.known();
     }
 }

@@ -70,6 +70,7 @@ pub fn raise_there(interest: &mut Interest, desc: Option<DescId>, bits: Mask, st
 }
 
 /// Raises bits at the two ends of the object of a description.
+#[inline(always)]
 fn raise_object(
     tables: &Tables,
     interest: &mut Interest,
@@ -91,6 +92,7 @@ fn raise_object(
 }
 
 /// Notes in registrations what an event raised other than by the clock.
+#[inline(always)]
 fn raise_all(tables: &Tables, interest: &mut Interest, raising: Raising, step: EventNumber)
     requires raising { IsRaising raising tables.now }
     requires untimed { IsUntimed raising }
@@ -107,6 +109,7 @@ fn raise_all(tables: &Tables, interest: &mut Interest, raising: Raising, step: E
 
 impl Parts {
     /// Notes in registrations what an event raised other than by the clock.
+    #[inline(always)]
     pub fn raise(&mut self, step: EventNumber, raising: Raising)
         requires raises { IsRaising raising self.old.tables }
         requires untimed { IsUntimed raising }

@@ -63,6 +63,41 @@ fn is_idle(parts: &Parts, choice: &Choice) -> bool
     parts.waiters.count() == 0 && parts.interest.guards() == 0 && choice.lost.count() == 0
 }
 
+/// What `mark_woken` does, if there is somebody to mark or something to narrow.
+#[inline(never)]
+fn mark_some<R: Readiness>(
+    parts: &mut Parts,
+    ready: &mut R,
+    reached: &mut Walk<Global>,
+    choice: &mut Choice,
+    attend: Option<DescId>,
+    step: EventNumber,
+)
+    requires step { 0 < step }
+    requires fits { Fits parts.old reached.old choice.old }
+    requires knows { R.knows ready.old parts.old.tables parts.old.clock parts.old.interest }
+    requires lasts { Lasts R.knows }
+    requires reached { AreReached step parts.old.tables parts.old.interest reached.old.reached }
+    requires looked { AreLookedAt step parts.old choice.old.lost.reached attend }
+    ensures marks { parts.new.parked
+        ≡ marked_by (gets_mark_key step parts.old attend) parts.old.clock parts.old.parked }
+    ensures narrowed { IsNarrowed step (record parts.old { parked = due_in parts.old })
+        parts.new }
+    ensures fits { Fits parts.new reached.new choice.new }
+    ensures none { choice.new.lost.reached ≡ [] }
+    ensures knows { R.knows ready.new parts.new.tables parts.new.clock parts.new.interest }
+{
+    parts.known();
+    mark_due(parts);
+    if parts.interest.guards() > 0 {
+        wake(parts, ready, reached, choice, step);
+    }
+    ep_climb::mark(parts, ready, reached, attend);
+    if choice.lost.count() > 0 {
+        mark_loose(parts, ready, reached, &mut choice.lost);
+    }
+}
+
 /// Sets marks at the end of an event: whoever is due, and of those that wait at a ready instance the longest waiting
 /// one, if none is marked there, and if the event wakes the instance or no exclusive registration stands in it or
 /// beneath it. An event wakes what it reaches, where of the exclusive registrations on a target only one passes
@@ -94,16 +129,8 @@ pub fn mark_woken<R: Readiness>(
     ensures none { choice.new.lost.reached ≡ [] }
     ensures knows { R.knows ready.new parts.new.tables parts.new.clock parts.new.interest }
 {
-    parts.known();
     if is_idle(parts, choice) {
         return;
     }
-    mark_due(parts);
-    if parts.interest.guards() > 0 {
-        wake(parts, ready, reached, choice, step);
-    }
-    ep_climb::mark(parts, ready, reached, attend);
-    if choice.lost.count() > 0 {
-        mark_loose(parts, ready, reached, &mut choice.lost);
-    }
+    mark_some(parts, ready, reached, choice, attend, step);
 }

@@ -23,6 +23,7 @@ impl Readiness for Asked {
 
 /// Sets marks at the end of an event, as ep_choice does, by what the hopes tell. Each instance below those that are
 /// looked at is asked once. All that is reportable stays among the hopes, and the lists stay.
+#[inline(always)]
 pub fn mark_by_hopes(
     parts: &mut Parts,
     beside: &mut Beside,

@@ -33,6 +33,8 @@ fn drop_watchers(interest: &Interest, beside: &mut Beside, desc: DescId)
 }
 
 /// Takes the places of the registrations of a description, or on it, away.
+#[cold]
+#[inline(never)]
 fn drop_touching(interest: &Interest, beside: &mut Beside, desc: DescId)
     ensures { Each (LosesPlaces (touches interest.now desc)) beside.old beside.new }
 {

@@ -37,6 +37,7 @@ pub fn know(parts: &Parts)
 /// end of its list and among the hopes, and lets what was raised climb. The instances that IN reached are noted, and
 /// those that lost a registration that may have guarded them. Marks are still to be set, and what was passed on is
 /// still to be forgotten.
+#[inline(always)]
 pub fn spread(
     parts: &mut Parts,
     beside: &mut Beside,
