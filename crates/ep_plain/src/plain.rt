@@ -107,6 +107,7 @@ impl PlainKernel {
     /// An `AllocError` has changed nothing, but that there may be more room for records. If there was room for the
     /// record, it comes only if nothing refuses the event: without room for the date of a registration or the moment of
     /// a timer the event goes on until it would add one.
+    #[inline(always)]
     fn try_step(
         &mut self,
         caller: CallerId,
