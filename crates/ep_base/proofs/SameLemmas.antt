@@ -58,8 +58,11 @@ one_answer a b e =
     (or_later (λ x y e. search rules)
     (or_later (λ x y e. refl)
     (or_later (λ x y e. refl)
+    (or_later (λ x y e. refl)
     (or_later (λ x y e. search rules)
-    (λ x y e. absurd x)))))))))))
+    (or_later (λ x y e. search rules)
+    (or_later (λ x y e. search rules)
+    (λ x y e. absurd x))))))))))))))
 
 pub one_call : (a b : Call) → test_of_calls.ghosts.eq a b ≡ true → a ≡ b
 one_call a b e =
@@ -79,10 +82,18 @@ one_call a b e =
     (or_later (λ x y e. search rules)
     (or_later (λ x y e. search rules)
     (or_later (λ x y e. search rules)
+    (or_later (λ x y e. search rules)
+    (or_later (λ x y e. search rules)
+    (or_later (λ x y e. search rules)
+    (or_later (λ x y e. search rules)
+    (or_later (λ x y e. search rules)
+    (or_later (λ x y e. search rules)
+    (or_later (λ x y e. search rules)
+    (or_later (λ x y e. search rules)
     (or_later (λ x y e. refl)
     (or_later (λ x y e. refl)
     (or_later (λ x y e. refl)
-    (λ x y e. absurd x)))))))))))))))))))))
+    (λ x y e. absurd x)))))))))))))))))))))))))))))
 
 pub one_event : (a b : Event) → test_of_events.ghosts.eq a b ≡ true → a ≡ b
 one_event a b e =

@@ -6,6 +6,7 @@ use crate::errno::Errno;
 use crate::ids::Fd;
 use crate::mask::Mask;
 use crate::short_list::{Bytes, Reports};
+use crate::socket::Name;
 use crate::time::Span;
 use std::alloc::AllocError;
 
@@ -38,6 +39,12 @@ pub enum Answer {
     Parked,
     /// The caller that resumed is still parked: its wait has not ended.
     Still,
+    /// connect(2) has begun, EINPROGRESS; OUT at the socket tells the end.
+    Connecting,
+    /// The error that waited at a socket, which is taken by this. The socket changes, so it is no refusal.
+    Failed(Errno),
+    /// The name of a socket, if it has one.
+    Named(Option<Name>),
     /// The event is refused, and has changed nothing but the history, and with ENOMEM nothing at all.
     Refused(Errno),
 }
@@ -74,6 +81,9 @@ impl Answer {
             },
             Answer::Parked => Answer::Parked,
             Answer::Still => Answer::Still,
+            Answer::Connecting => Answer::Connecting,
+            Answer::Failed(errno) => Answer::Failed(*errno),
+            Answer::Named(name) => Answer::Named(*name),
             Answer::Refused(errno) => Answer::Refused(*errno),
         })
     }

@@ -1,10 +1,11 @@
 //! Calls and events.
 ghost use Rattle.std.specs.Prelude.{◌≡◌, IfOk, IsOk};
-ghost use Rattle.ep_base.specs.Call.{EventHasNoBytes, HasNoBytes, IsOnObject, MakesFiles};
+ghost use Rattle.ep_base.specs.Call.{EventHasNoBytes, HasNoBytes, IsOnObject, IsOnSocket, MakesFiles};
 
 use crate::buffer::Buffer;
 use crate::ids::{Fd, Pid};
 use crate::mask::Mask;
+use crate::socket::{Family, How, Name};
 use crate::time::{Span, Timeout};
 use std::alloc::AllocError;
 
@@ -39,6 +40,11 @@ pub enum Call {
     SocketPair {
         cloexec: bool,
     },
+    /// socket(2) of a stream socket. No kernel has one yet: EINVAL.
+    Socket {
+        family: Family,
+        cloexec: bool,
+    },
     /// A file that can't be polled: a read gives no bytes, and a write answers its length and keeps none.
     /// Answered by `Answer::Num`. EMFILE, ENFILE.
     Plain {
@@ -71,25 +77,64 @@ pub enum Call {
         max: i32,
         timeout: Timeout,
     },
-    /// read(2) of at most `n` bytes, answered by `Answer::Bytes`: none at the end of a pipe or socket whose writer is
-    /// gone. An eventfd or a timer gives 8 bytes, the lowest first, and answers EINVAL where `n` is below 8. EBADF
-    /// where `fd` names nothing or the write end of a pipe, EINVAL for an instance, EAGAIN where nothing is there.
+    /// read(2) of at most `n` bytes, answered by `Answer::Bytes`. At the end there are none: the writer is gone or has
+    /// shut its writing, or the socket has shut its reading. An eventfd or a timer gives 8 bytes, the lowest first, and
+    /// answers EINVAL if `n` is below 8. EBADF if `fd` names nothing or the write end of a pipe, EINVAL for an
+    /// instance, EAGAIN if nothing is there.
     Read {
         fd: Fd,
         n: u32,
     },
     /// write(2) of these bytes, answered by `Answer::Num`, how many were taken. A pipe takes 4,096 bytes or fewer whole
     /// or not at all, and of more as many as fit; a socket takes as many as fit; an eventfd adds the first 8.
-    /// EBADF where `fd` names nothing or the read end of a pipe, EINVAL for an instance or a timer, EINVAL for an
-    /// eventfd and fewer than 8 bytes or 2^64 - 1, EPIPE where nobody reads any more, EAGAIN where nothing fits.
+    /// EBADF if `fd` names nothing or the read end of a pipe, EINVAL for an instance or a timer, EINVAL for an eventfd
+    /// and fewer than 8 bytes or 2^64 - 1, EPIPE if nobody reads any more or the socket has shut its writing, EAGAIN if
+    /// nothing fits.
     Write {
         fd: Fd,
         bytes: Buffer,
     },
-    /// shutdown(2) with SHUT_WR; a second one is done and changes nothing. Answered by `Answer::Done`.
-    /// EBADF, ENOTSOCK where `fd` names no socket.
+    /// shutdown(2) of the directions that `how` names; one that is shut already changes nothing. Answered by
+    /// `Answer::Done`. EBADF, ENOTSOCK if `fd` names no socket.
     Shutdown {
         fd: Fd,
+        how: How,
+    },
+    /// recv(2) with MSG_PEEK: as a read, but the bytes stay. Answered by `Answer::Bytes`. EBADF, ENOTSOCK, then as a
+    /// read of the socket.
+    Peek {
+        fd: Fd,
+        n: u32,
+    },
+    /// getsockopt(2) with SO_ERROR: takes the error that waits at the socket. Answered by `Answer::Num`, the error's
+    /// number, or 0 if none waits. EBADF, ENOTSOCK.
+    TakeError {
+        fd: Fd,
+    },
+    /// getsockname(2), or getpeername(2) with `peer`. Answered by `Answer::Named`. EBADF, ENOTSOCK.
+    SocketName {
+        fd: Fd,
+        peer: bool,
+    },
+    /// bind(2): gives a socket a name. No kernel has a socket yet that could take one: EINVAL.
+    Bind {
+        fd: Fd,
+        name: Name,
+    },
+    /// listen(2): takes connections, of which `backlog` + 1 may wait. No kernel has such a socket yet: EINVAL.
+    Listen {
+        fd: Fd,
+        backlog: i32,
+    },
+    /// connect(2) to the socket that listens at this name. No kernel has one yet: EINVAL.
+    Connect {
+        fd: Fd,
+        name: Name,
+    },
+    /// accept4(2): the connection that waits longest, at the lowest free number. No kernel has one yet: EINVAL.
+    Accept {
+        fd: Fd,
+        cloexec: bool,
     },
     /// timerfd_settime(2): the first expiration so long after the clock began with `absolute`, else so long from now,
     /// and then one after each `interval`; only one if that is 0. A moment that has passed expires at once. A `value`
@@ -149,6 +194,7 @@ impl Call {
             | Call::EventFd { .. }
             | Call::TimerFd { .. }
             | Call::SocketPair { .. }
+            | Call::Socket { .. }
             | Call::Plain { .. }
             | Call::EpollCreate { .. } => self.copy_of_maker(),
             Call::EpollCtl { .. }
@@ -157,6 +203,13 @@ impl Call {
             | Call::Shutdown { .. }
             | Call::SetTime { .. }
             | Call::GetTime { .. } => self.copy_on_object(),
+            Call::Peek { .. }
+            | Call::TakeError { .. }
+            | Call::SocketName { .. }
+            | Call::Bind { .. }
+            | Call::Listen { .. }
+            | Call::Connect { .. }
+            | Call::Accept { .. } => self.copy_on_socket(),
             Call::Dup { fd } => Call::Dup { fd: *fd },
             Call::Dup2 { fd, to } => Call::Dup2 { fd: *fd, to: *to },
             Call::Close { fd } => Call::Close { fd: *fd },
@@ -184,6 +237,7 @@ impl Call {
             },
             Call::TimerFd { clock, cloexec } => Call::TimerFd { clock, cloexec },
             Call::SocketPair { cloexec } => Call::SocketPair { cloexec },
+            Call::Socket { family, cloexec } => Call::Socket { family, cloexec },
             Call::Plain { cloexec } => Call::Plain { cloexec },
             Call::EpollCreate { cloexec } => Call::EpollCreate { cloexec },
             _ => unreachable!(),
@@ -211,7 +265,7 @@ impl Call {
             },
             Call::EpollWait { epfd, max, timeout } => Call::EpollWait { epfd, max, timeout },
             Call::Read { fd, n } => Call::Read { fd, n },
-            Call::Shutdown { fd } => Call::Shutdown { fd },
+            Call::Shutdown { fd, how } => Call::Shutdown { fd, how },
             Call::SetTime {
                 fd,
                 absolute,
@@ -224,6 +278,23 @@ impl Call {
                 interval,
             },
             Call::GetTime { fd } => Call::GetTime { fd },
+            _ => unreachable!(),
+        }
+    }
+
+    /// The same call once more, of one that a socket alone answers.
+    fn copy_on_socket(&self) -> Call
+        requires { IsOnSocket self.now }
+        ensures { result ≡ self.now }
+    {
+        match *self {
+            Call::Peek { fd, n } => Call::Peek { fd, n },
+            Call::TakeError { fd } => Call::TakeError { fd },
+            Call::SocketName { fd, peer } => Call::SocketName { fd, peer },
+            Call::Bind { fd, name } => Call::Bind { fd, name },
+            Call::Listen { fd, backlog } => Call::Listen { fd, backlog },
+            Call::Connect { fd, name } => Call::Connect { fd, name },
+            Call::Accept { fd, cloexec } => Call::Accept { fd, cloexec },
             _ => unreachable!(),
         }
     }

@@ -35,6 +35,24 @@ pub enum Errno {
     Eloop,
     /// The object is no socket.
     Enotsock,
+    /// The name is none of the socket's family.
+    Eafnosupport,
+    /// The name is taken, or none is free.
+    Eaddrinuse,
+    /// No name is free to connect from.
+    Eaddrnotavail,
+    /// The connection is gone, and its error was taken.
+    Econnaborted,
+    /// The peer closed and left bytes unread.
+    Econnreset,
+    /// The socket is connected, or listens.
+    Eisconn,
+    /// The socket is not connected.
+    Enotconn,
+    /// Nobody listens there.
+    Econnrefused,
+    /// The socket is connecting already.
+    Ealready,
 }
 
 impl Errno {
@@ -58,6 +76,15 @@ impl Errno {
             Errno::Epipe => 32,
             Errno::Eloop => 40,
             Errno::Enotsock => 88,
+            Errno::Eafnosupport => 97,
+            Errno::Eaddrinuse => 98,
+            Errno::Eaddrnotavail => 99,
+            Errno::Econnaborted => 103,
+            Errno::Econnreset => 104,
+            Errno::Eisconn => 106,
+            Errno::Enotconn => 107,
+            Errno::Econnrefused => 111,
+            Errno::Ealready => 114,
         }
     }
 
@@ -81,6 +108,15 @@ impl Errno {
             Errno::Epipe => "EPIPE",
             Errno::Eloop => "ELOOP",
             Errno::Enotsock => "ENOTSOCK",
+            Errno::Eafnosupport => "EAFNOSUPPORT",
+            Errno::Eaddrinuse => "EADDRINUSE",
+            Errno::Eaddrnotavail => "EADDRNOTAVAIL",
+            Errno::Econnaborted => "ECONNABORTED",
+            Errno::Econnreset => "ECONNRESET",
+            Errno::Eisconn => "EISCONN",
+            Errno::Enotconn => "ENOTCONN",
+            Errno::Econnrefused => "ECONNREFUSED",
+            Errno::Ealready => "EALREADY",
         }
     }
 }

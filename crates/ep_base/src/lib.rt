@@ -13,6 +13,7 @@ mod mask;
 mod object;
 mod record;
 mod short_list;
+mod socket;
 mod time;
 
 pub use crate::answer::{Answer, Report};
@@ -27,4 +28,5 @@ pub use crate::mask::Mask;
 pub use crate::object::{End, Raised};
 pub use crate::record::Record;
 pub use crate::short_list::{Bytes, Picked, Reports, ShortList};
+pub use crate::socket::{Family, How, Name, Space};
 pub use crate::time::{LAST_MOMENT, Moment, Span, Timeout};

@@ -49,12 +49,12 @@ use Rattle.ep_calls.proofs.RegistrationLemmas.{caller_waits}
 use Rattle.ep_calls.proofs.ResumeLemmas.{there}
 
 -- a call that may want memory: more bytes are asked for, and wait, than an answer holds in itself
-long_call : (x : Object) (e : End) (now : ℕ) (asked : ObjectCall) → (min (asked_of asked) (object_waiting x e) ≤ 16 → ⊥) → first (object_refusals x e now asked) ≡ None
+long_call : (x : Object) (e : End) (now : ℕ) (asked : ObjectCall) → (min (asked_of asked) (object_waiting x e asked) ≤ 16 → ⊥) → first (object_refusals x e now asked) ≡ None
 long_call x e now asked h = let long = lt_of_not-le h in waiting_is_given x e now asked (omega (arith, long))
 
 module _ (p : Parts) (pid : ℕ) where
   pub object_last : (fd : Fd) (desc : DescId) (asked : ObjectCall) → number_under p.tables desc ≡ under p.tables.files pid fd.0 → IsSome (number_under p.tables desc)
-      → (min (asked_of asked) (waiting_at p.tables desc) ≤ 16 → ⊥) → (call : Call) → object_call call ≡ Some (fd, asked) → NothingRefusesCall p pid call
+      → (min (asked_of asked) (waiting_at p.tables desc asked) ≤ 16 → ⊥) → (call : Call) → object_call call ≡ Some (fd, asked) → NothingRefusesCall p pid call
   object_last fd desc asked found lives h call is = λ n s at sound quiet legal stands.
       ap first (on_object_is call fd asked is p.tables.limits s 0 pid).0
       ∙ ((λ i. first (object_call_of (stands.files i) pid fd.0 (stands.now i) asked).refusals)

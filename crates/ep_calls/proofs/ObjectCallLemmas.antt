@@ -9,7 +9,7 @@ use Rattle.smallvec.specs.SmallVec.{HasRoomFor}
 use Rattle.smallvec.specs.declared.SmallVec.{SmallVec}
 use Rattle.ep_calls.specs.Reply.{IsSettled}
 use Rattle.ep_base.specs.declared.answer.Answer.{Answer}
-use Rattle.ep_base.specs.declared.answer.Answer.TheVariants.{Bytes, Done, Events, Num, Refused, Time}
+use Rattle.ep_base.specs.declared.answer.Answer.TheVariants.{Bytes, Done, Events, Failed, Named, Num, Refused, Time}
 use Rattle.ep_base.specs.declared.errno.Errno.{Errno}
 use Rattle.ep_base.specs.declared.errno.Errno.TheVariants.{Ebadf}
 use Rattle.ep_base.specs.declared.object.End.{End}
@@ -29,6 +29,8 @@ given_fits : (answer : Answer) (asked waiting : ℕ) (room : SmallVec ℕ 16 Glo
 given_fits (Bytes bytes) asked waiting room few h i = omega (arith, few, h, i)
 given_fits (Num k) asked waiting room few h i = tt
 given_fits (Time value interval) asked waiting room few h i = tt
+given_fits (Failed e) asked waiting room few h i = tt
+given_fits (Named name) asked waiting room few h i = tt
 given_fits (Refused e) asked waiting room few h i = tt
 given_fits Done asked waiting room few h i = tt
 given_fits answer asked waiting room few h i = few
@@ -39,11 +41,11 @@ unless_fits (Some e) x f room h = tt
 unless_fits None x f room h = h refl
 
 -- what such a call answers has room for a copy
-pub fits : (x : Object) (e : End) (now : ℕ) (asked : ObjectCall) (room : SmallVec ℕ 16 Global) → HasRoomFor room 16 → HasRoomFor room (min (asked_of asked) (object_waiting x e))
+pub fits : (x : Object) (e : End) (now : ℕ) (asked : ObjectCall) (room : SmallVec ℕ 16 Global) → HasRoomFor room 16 → HasRoomFor room (min (asked_of asked) (object_waiting x e asked))
     → FitsRoom (attempt (object_refusals x e now asked) x (object_effect x e now asked)).0 room
 fits x e now asked room h i =
     unless_fits (first (object_refusals x e now asked)) x (object_effect x e now asked) room
-    (λ none. given_fits (object_effect x e now asked).0 (asked_of asked) (object_waiting x e) room (gives_few x e now asked none) h i)
+    (λ none. given_fits (object_effect x e now asked).0 (asked_of asked) (object_waiting x e asked) room (gives_few x e now asked none) h i)
 
 -- few bytes take no memory
 given_settled : (answer : Answer) (asked waiting : ℕ) → GivesAtMost (min asked (max 16 waiting)) answer → min asked waiting ≤ 16 → IsSettled answer
@@ -55,10 +57,10 @@ unless_settled : (refusal : Option Errno) (x : Object) (f : Effect Object) → (
 unless_settled (Some e) x f h = tt
 unless_settled None x f h = h refl
 
-pub fits_settled : (x : Object) (e : End) (now : ℕ) (asked : ObjectCall) → min (asked_of asked) (object_waiting x e) ≤ 16 → IsSettled (attempt (object_refusals x e now asked) x (object_effect x e now asked)).0
+pub fits_settled : (x : Object) (e : End) (now : ℕ) (asked : ObjectCall) → min (asked_of asked) (object_waiting x e asked) ≤ 16 → IsSettled (attempt (object_refusals x e now asked) x (object_effect x e now asked)).0
 fits_settled x e now asked h =
     unless_settled (first (object_refusals x e now asked)) x (object_effect x e now asked)
-    (λ none. given_settled (object_effect x e now asked).0 (asked_of asked) (object_waiting x e) (gives_few x e now asked none) h)
+    (λ none. given_settled (object_effect x e now asked).0 (asked_of asked) (object_waiting x e asked) (gives_few x e now asked none) h)
 
 -- writing back what stands there changes nothing
 set_same : (xs : List (Option Object)) (k : ℕ) (x : Object) → slice_index_or xs k None ≡ Some x → slice_set xs k (Some x) ≡ xs

@@ -5,7 +5,7 @@ use Rattle.std.specs.declared.alloc.Global.{Global}
 use Rattle.smallvec.specs.SmallVec.{HasRoomFor}
 use Rattle.smallvec.specs.declared.SmallVec.{SmallVec}
 use Rattle.ep_base.specs.declared.answer.Answer.{Answer}
-use Rattle.ep_base.specs.declared.answer.Answer.TheVariants.{Bytes, Done, Num, Refused, Time}
+use Rattle.ep_base.specs.declared.answer.Answer.TheVariants.{Bytes, Done, Failed, Named, Num, Refused, Time}
 use Rattle.ep_machine.specs.Effect.{Effect}
 use Rattle.ep_base.specs.declared.ids.DescId.{DescId}
 use Rattle.ep_machine.specs.Files.{Files, named_by, names_nothing, object_under, side_of, side_under}
@@ -41,13 +41,15 @@ abbrev pub FitsRoom : Answer → SmallVec ℕ 16 Global → Type 0
 FitsRoom (Bytes bytes) room = HasRoomFor room (length bytes)
 FitsRoom (Num k) room = Unit {0}
 FitsRoom (Time value interval) room = Unit {0}
+FitsRoom (Failed e) room = Unit {0}
+FitsRoom (Named name) room = Unit {0}
 FitsRoom (Refused e) room = Unit {0}
 FitsRoom Done room = Unit {0}
 FitsRoom answer room = ⊥
 
--- how many bytes wait to be read at a description
-abbrev pub waiting_at : Seen → DescId → ℕ
-waiting_at tables desc = object_waiting (content_of tables.files (number_of tables desc)) (side_of tables.files (number_of tables desc))
+-- how many of the bytes that wait at a description a call could give
+abbrev pub waiting_at : Seen → DescId → ObjectCall → ℕ
+waiting_at tables desc asked = object_waiting (content_of tables.files (number_of tables desc)) (side_of tables.files (number_of tables desc)) asked
 
 -- such a call is made of the object of a description, which stays under its key, and reports nothing
 pub record AppliesAt (desc : DescId) (now : ℕ) (asked : ObjectCall) (outcome : Outcome) (old new : Seen) : Type 0 where

@@ -18,6 +18,9 @@ answer_in (kinds.Reports reports) = answers.Events reports.value
 answer_in (kinds.Time value interval) = answers.Time value interval
 answer_in kinds.Parked = answers.Parked
 answer_in kinds.Still = answers.Still
+answer_in kinds.Connecting = answers.Connecting
+answer_in (kinds.Failed e) = answers.Failed e
+answer_in (kinds.Named name) = answers.Named name
 answer_in (kinds.Refused e) = answers.Refused e
 
 abbrev pub numbers_in : Few → List ℕ

@@ -10,9 +10,9 @@ use Rattle.ep_machine.specs.Objects.{ObjectCall, object_call}
 use Rattle.ep_machine.specs.Watches.{is_add}
 use Rattle.ep_object.specs.Memory.{asked_of, object_waiting}
 
--- how many bytes wait to be read at what a descriptor number names; 0 where it names nothing
-abbrev pub waiting_under : Files → ℕ → ℤ → ℕ
-waiting_under files p fd = object_waiting (object_under files p fd) (side_under files p fd)
+-- how many of the bytes that wait at what a descriptor number names a call could give; 0 where it names nothing
+abbrev pub waiting_under : Files → ℕ → ℤ → ObjectCall → ℕ
+waiting_under files p fd asked = object_waiting (object_under files p fd) (side_under files p fd) asked
 
 -- a call that closes descriptors and opens none
 abbrev pub Frees : Call → Type 0
@@ -22,10 +22,10 @@ Frees Exit = Unit {0}
 Frees call = ⊥
 
 -- a call of a process that needs no memory but for its record: what was made, added or parked took the room for its
--- end, and 16 bytes that are read stand in the answer itself
+-- end, and 16 bytes that are read or peeked at stand in the answer itself
 abbrev pub AsksForNone : Files → ℕ → Call → Option (Fd × ObjectCall) → Type 0
 AsksForNone files p call None = Frees call
-AsksForNone files p call (Some on) = min (asked_of on.1) (waiting_under files p on.0.0) ≤ 16
+AsksForNone files p call (Some on) = min (asked_of on.1) (waiting_under files p on.0.0 on.1) ≤ 16
 
 abbrev pub TakesNoMemory : Files → ℕ → Call → Type 0
 TakesNoMemory files p (EpollCtl epfd op fd mask tag) = is_add op ≡ false

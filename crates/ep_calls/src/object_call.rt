@@ -33,8 +33,8 @@ fn room_for_copy(
     ensures inline { IfOk result (λ room. HasRoomFor room 16) }
     ensures room { IfOk result
         (λ room. wanted ≡ true
-        → HasRoomFor room (min (asked_of asked.now) (waiting_at tables.now desc))) }
-    ensures short { min (asked_of asked.now) (waiting_at tables.now desc) ≤ 16 → IsOk result }
+        → HasRoomFor room (min (asked_of asked.now) (waiting_at tables.now desc asked.now))) }
+    ensures short { min (asked_of asked.now) (waiting_at tables.now desc asked.now) ≤ 16 → IsOk result }
 {
     let mut room = SmallVec::new(alloc);
     if !wanted {
@@ -42,7 +42,7 @@ fn room_for_copy(
     }
     let most = asked.most();
     if most > 0 {
-        let waiting = tables.object(desc).waiting(tables.end(desc));
+        let waiting = tables.object(desc).waiting(tables.end(desc), asked);
         room.reserve((most as usize).min(waiting))?;
     }
     Ok(room)
@@ -65,6 +65,8 @@ fn answer_copy(answer: &Answer, mut room: SmallVec<u8, 16>) -> Answer
             value: *value,
             interval: *interval,
         },
+        Answer::Failed(errno) => Answer::Failed(*errno),
+        Answer::Named(name) => Answer::Named(*name),
         Answer::Refused(errno) => Answer::Refused(*errno),
         _ => Answer::Done,
     }
@@ -74,10 +76,10 @@ fn answer_copy(answer: &Answer, mut room: SmallVec<u8, 16>) -> Answer
 #[inline(always)]
 pub(crate) fn is_long(tables: &Tables, desc: DescId, asked: &ObjectCall<'_>) -> bool
     requires { IsSome (number_under tables.now desc) }
-    ensures { MatchBool result (16 < min (asked_of asked.now) (waiting_at tables.now desc))
-        (min (asked_of asked.now) (waiting_at tables.now desc) ≤ 16) }
+    ensures { MatchBool result (16 < min (asked_of asked.now) (waiting_at tables.now desc asked.now))
+        (min (asked_of asked.now) (waiting_at tables.now desc asked.now) ≤ 16) }
 {
-    asked.most() > 16 && tables.object(desc).waiting(tables.end(desc)) > 16
+    asked.most() > 16 && tables.object(desc).waiting(tables.end(desc), asked) > 16
 }
 
 /// Copies of an answer for a second record, if one is asked for.
@@ -118,12 +120,12 @@ fn rooms_for(
     ensures empty { IfOk result (λ r. r.room.items ≡ []) }
     ensures inline { IfOk result (λ r. HasRoomFor r.room 16) }
     ensures room { IfOk result
-        (λ r. HasRoomFor r.room (min (asked_of asked.now) (waiting_at tables.now desc))) }
+        (λ r. HasRoomFor r.room (min (asked_of asked.now) (waiting_at tables.now desc asked.now))) }
     ensures more_empty { IfOk result (λ r. r.more.items ≡ []) }
     ensures more_inline { IfOk result (λ r. HasRoomFor r.more 16) }
     ensures more { IfOk result
         (λ r. kept ≡ true
-        → HasRoomFor r.more (min (asked_of asked.now) (waiting_at tables.now desc))) }
+        → HasRoomFor r.more (min (asked_of asked.now) (waiting_at tables.now desc asked.now))) }
 {
     let room = room_for_copy(alloc, tables, desc, asked, true)?;
     let more = room_for_copy(alloc, tables, desc, asked, kept)?;

@@ -4,7 +4,7 @@ ghost use Rattle.ep_base.specs.declared.answer.Answer.TheVariants.{Events};
 ghost use Rattle.ep_calls.specs.Reply.{IsSilent, number_in};
 
 use crate::picks::Picks;
-use ep_base::{Answer, Bytes, CallerId, Errno, Event, Fd, Report, Reports, Span};
+use ep_base::{Answer, Bytes, CallerId, Errno, Event, Fd, Name, Report, Reports, Span};
 use ep_records::History;
 use smallvec::SmallVec;
 use std::alloc::Global;
@@ -23,6 +23,9 @@ enum Kept {
     Time { value: Span, interval: Span },
     Parked,
     Still,
+    Connecting,
+    Failed(Errno),
+    Named(Option<Name>),
     Refused(Errno),
 }
 
@@ -60,6 +63,9 @@ impl Reply {
             Answer::Time { value, interval } => Kept::Time { value, interval },
             Answer::Parked => Kept::Parked,
             Answer::Still => Kept::Still,
+            Answer::Connecting => Kept::Connecting,
+            Answer::Failed(errno) => Kept::Failed(errno),
+            Answer::Named(name) => Kept::Named(name),
             Answer::Refused(errno) => Kept::Refused(errno),
         };
         Reply { kept }
@@ -152,6 +158,9 @@ impl Reply {
             Kept::Time { value, interval } => Answer::Time { value, interval },
             Kept::Parked => Answer::Parked,
             Kept::Still => Answer::Still,
+            Kept::Connecting => Answer::Connecting,
+            Kept::Failed(errno) => Answer::Failed(errno),
+            Kept::Named(name) => Answer::Named(name),
             Kept::Refused(errno) => Answer::Refused(errno),
         }
     }

@@ -122,6 +122,11 @@ fn answer_of(
         Call::Fork => tables.fork(pid),
         Call::Exec => Ok(exec(tables, waiters, pid)),
         Call::Exit => Ok(exit(tables, waiters, pid)),
+        Call::Socket { .. }
+        | Call::Bind { .. }
+        | Call::Listen { .. }
+        | Call::Connect { .. }
+        | Call::Accept { .. } => Ok(Answer::Refused(Errno::Einval)),
         _ => unreachable!(),
     }
 }

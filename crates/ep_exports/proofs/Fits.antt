@@ -8,13 +8,13 @@ use Rattle.std.proofs.Common.{arith, refl, sym, ap, subst, true≢false, ◌≡�
 use Rattle.ep_facts.proofs.BoolFacts.{first_of_or, second_of_or}
 use Rattle.ep_base.specs.Limits.{Limits}
 use Rattle.ep_base.specs.declared.answer.Answer.{Answer}
-use Rattle.ep_base.specs.declared.answer.Answer.TheVariants.{Done, Num, Two, Refused, Bytes, Events, Time, Parked, Still}
+use Rattle.ep_base.specs.declared.answer.Answer.TheVariants.{Done, Num, Two, Refused, Bytes, Events, Time, Parked, Still, Connecting, Failed, Named}
 use Rattle.ep_base.specs.declared.answer.Report.{Report as Told}
 use Rattle.ep_base.specs.declared.errno.Errno.{Errno}
 use Rattle.ep_base.specs.declared.object.End.{End}
 use Rattle.ep_base.specs.declared.ids.Fd.{Fd}
 use Rattle.ep_base.specs.declared.ids.Pid.{Pid}
-use Rattle.ep_base.specs.declared.call.Call.TheVariants.{EpollWait, Read, Fork, Exec, Exit}
+use Rattle.ep_base.specs.declared.call.Call.TheVariants.{EpollWait, Peek, Read, Fork, Exec, Exit}
 use Rattle.ep_base.specs.declared.call.Call.{Call}
 use Rattle.ep_base.specs.declared.call.Event.{Event}
 use Rattle.ep_base.specs.declared.ids.CallerId.{CallerId}
@@ -23,7 +23,7 @@ use Rattle.ep_calls.specs.Acts.{Acts}
 use Rattle.ep_flat.specs.declared.flat.FlatRequest.{FlatRequest}
 use Rattle.ep_base.specs.declared.call.Event.TheVariants.{Call as CallOf, Resume, Tick}
 use Rattle.ep_machine.specs.Effect.{first}
-use Rattle.ep_machine.specs.Objects.{Object, read, read_refusals, reads}
+use Rattle.ep_machine.specs.Objects.{Object, object_effect, object_refusals, peeks, read, read_refusals, reads}
 use Rattle.ep_object.proofs.AnswerLemmas.{gives_few}
 use Rattle.ep_object.specs.Memory.{GivesAtMost}
 use Rattle.ep_machine.specs.Report.{is_pick, is_fair_to, plainly, report, find_watch, watches_at, report_of}
@@ -32,7 +32,7 @@ use Rattle.ep_machine.specs.Step.{next_event, refused_or, step}
 use Rattle.ep_machine.specs.Refusal.{refusals}
 use Rattle.ep_machine.specs.Waits.{is_due, is_parked, leave, leave_after, resume_by, unmarked, wait, wait_for, waiter_of}
 use Rattle.ep_machine.specs.Readiness.{is_ready, reportables}
-use Rattle.ep_base.specs.declared.errno.Errno.TheVariants.{Eperm, Enoent, Esrch, Ebadf, Eagain, Enomem, Ebusy, Eexist, Einval, Enfile, Emfile, Enospc, Epipe, Eloop, Enotsock}
+use Rattle.ep_base.specs.declared.errno.Errno.TheVariants.{Ebadf, Ebusy, Enomem, Esrch}
 use Rattle.ep_machine.specs.Watches.{number_in}
 use Rattle.ep_machine.specs.Files.{named_by, names_nothing, table_of, object_under, side_under}
 use Rattle.ep_flat.specs.Flat.{Asks, AsksCall, bytes_of, count_of, lacks_room, reports_of}
@@ -49,6 +49,11 @@ short most answer few = omega arith
 read_short : (x : Object) (e : End) (n now : ℕ) → first (read_refusals x e n now) ≡ None → length (bytes_of (read x e n now).0) ≤ n
 read_short x e n now h =
     let few = short _ (read x e n now).0 (gives_few x e now (reads n) h) in
+    omega (arith, few)
+
+peek_short : (x : Object) (e : End) (n now : ℕ) → first (object_refusals x e now (peeks n)) ≡ None → length (bytes_of (object_effect x e now (peeks n)).0) ≤ n
+peek_short x e n now h =
+    let few = short _ (object_effect x e now (peeks n)).0 (gives_few x e now (peeks n) h) in
     omega (arith, few)
 
 abbrev answer_in : Option (Answer × State) → Answer
@@ -80,6 +85,18 @@ step_read limits s t caller p fd n picked answer h =
     (λ made none is. subst (λ (c : Change). length (bytes_of c.0) ≤ n) (plain_change picked _ made is)
     (read_short (object_under now.files p.0 fd.0) (side_under now.files p.0 fd.0) n now.now
     (first_rest (names_nothing now.files p.0 fd.0) Ebadf (read_refusals (object_under now.files p.0 fd.0) (side_under now.files p.0 fd.0) n now.now)
+    (first_rest (is_parked now caller) Ebusy _ (first_rest (is_none (table_of now.files p.0)) Esrch _ none))))) h
+
+step_peek : (limits : Limits) (s t : State) (caller : ℕ) (p : Pid) (fd : Fd) (n : ℕ) (picked : List ℕ) (answer : Answer)
+    → step limits s caller (CallOf p (Peek fd n)) picked ≡ Some (answer, t) → length (bytes_of answer) ≤ n
+step_peek limits s t caller p fd n picked answer h =
+    let now = next_event s in
+    let x = object_under now.files p.0 fd.0 in
+    let e = side_under now.files p.0 fd.0 in
+    goes (λ a. length (bytes_of a) ≤ n) (first (refusals limits now caller (CallOf p (Peek fd n)))) now t picked _ answer (λ e. omega arith)
+    (λ made none is. subst (λ (c : Change). length (bytes_of c.0) ≤ n) (plain_change picked _ made is)
+    (peek_short x e n now.now
+    (first_rest (names_nothing now.files p.0 fd.0) Ebadf (object_refusals x e now.now (peeks n))
     (first_rest (is_parked now caller) Ebusy _ (first_rest (is_none (table_of now.files p.0)) Esrch _ none))))) h
 
 cons_few : (o : Option Watch) (xs : List Watch) → length (cons_option o xs) ≤ suc (length xs)
@@ -166,28 +183,8 @@ by_step : (P : Answer → Type 0) (limits : Limits) (caller : CallerId) (event :
     → P (Refused Enomem) → ((picked : List ℕ) → step limits s caller.0 event picked ≡ Some (answer, t) → P answer)
     → Acts limits caller event answer s t past now → P answer
 by_step P limits caller event (Refused Enomem) s t past now none some acts = none
-by_step P limits caller event (Refused Eperm) s t past now none some acts = some acts.picked acts.goes
-by_step P limits caller event (Refused Enoent) s t past now none some acts = some acts.picked acts.goes
-by_step P limits caller event (Refused Esrch) s t past now none some acts = some acts.picked acts.goes
-by_step P limits caller event (Refused Ebadf) s t past now none some acts = some acts.picked acts.goes
-by_step P limits caller event (Refused Eagain) s t past now none some acts = some acts.picked acts.goes
-by_step P limits caller event (Refused Ebusy) s t past now none some acts = some acts.picked acts.goes
-by_step P limits caller event (Refused Eexist) s t past now none some acts = some acts.picked acts.goes
-by_step P limits caller event (Refused Einval) s t past now none some acts = some acts.picked acts.goes
-by_step P limits caller event (Refused Enfile) s t past now none some acts = some acts.picked acts.goes
-by_step P limits caller event (Refused Emfile) s t past now none some acts = some acts.picked acts.goes
-by_step P limits caller event (Refused Enospc) s t past now none some acts = some acts.picked acts.goes
-by_step P limits caller event (Refused Epipe) s t past now none some acts = some acts.picked acts.goes
-by_step P limits caller event (Refused Eloop) s t past now none some acts = some acts.picked acts.goes
-by_step P limits caller event (Refused Enotsock) s t past now none some acts = some acts.picked acts.goes
-by_step P limits caller event Done s t past now none some acts = some acts.picked acts.goes
-by_step P limits caller event (Num n) s t past now none some acts = some acts.picked acts.goes
-by_step P limits caller event (Two a b) s t past now none some acts = some acts.picked acts.goes
-by_step P limits caller event (Bytes xs) s t past now none some acts = some acts.picked acts.goes
-by_step P limits caller event (Events xs) s t past now none some acts = some acts.picked acts.goes
-by_step P limits caller event (Time v i) s t past now none some acts = some acts.picked acts.goes
-by_step P limits caller event Parked s t past now none some acts = some acts.picked acts.goes
-by_step P limits caller event Still s t past now none some acts = some acts.picked acts.goes
+by_step P limits caller event (Refused e) s t past now none some acts = some acts.picked acts.goes
+by_step P limits caller event answer s t past now none some acts = some acts.picked acts.goes
 
 read_fits_of : (r : FlatRequest) (given : List ℕ) (call : Call) (p : Pid) (limits : Limits) (caller : CallerId) (answer : Answer) (s t : State) (past now : List Record) (room : ℕ)
     → AsksCall r given call → r.event ≡ 9 → r.count ≤ room → Acts limits caller (CallOf p call) answer s t past now → length (bytes_of answer) ≤ room
@@ -198,6 +195,16 @@ read_fits_of r given Fork p limits caller answer s t past now room asks is fits 
 read_fits_of r given Exec p limits caller answer s t past now room asks is fits acts = absurd (omega (arith, asks, is))
 read_fits_of r given Exit p limits caller answer s t past now room asks is fits acts = absurd (omega (arith, asks, is))
 read_fits_of r given call p limits caller answer s t past now room asks is fits acts = absurd (omega (arith, asks.0, is))
+
+peek_fits_of : (r : FlatRequest) (given : List ℕ) (call : Call) (p : Pid) (limits : Limits) (caller : CallerId) (answer : Answer) (s t : State) (past now : List Record) (room : ℕ)
+    → AsksCall r given call → r.event ≡ 27 → r.count ≤ room → Acts limits caller (CallOf p call) answer s t past now → length (bytes_of answer) ≤ room
+peek_fits_of r given (Peek fd n) p limits caller answer s t past now room asks is fits acts =
+    let short : length (bytes_of answer) ≤ n = by_step (λ a. length (bytes_of a) ≤ n) limits caller (CallOf p (Peek fd n)) answer s t past now (omega arith) (λ picked h. step_peek limits s t caller.0 p fd n picked answer h) acts in
+    omega (arith, short, asks.2, fits)
+peek_fits_of r given Fork p limits caller answer s t past now room asks is fits acts = absurd (omega (arith, asks, is))
+peek_fits_of r given Exec p limits caller answer s t past now room asks is fits acts = absurd (omega (arith, asks, is))
+peek_fits_of r given Exit p limits caller answer s t past now room asks is fits acts = absurd (omega (arith, asks, is))
+peek_fits_of r given call p limits caller answer s t past now room asks is fits acts = absurd (omega (arith, asks.0, is))
 
 wait_fits_of : (r : FlatRequest) (given : List ℕ) (call : Call) (p : Pid) (limits : Limits) (caller : CallerId) (answer : Answer) (s t : State) (past now : List Record) (room : ℕ)
     → AsksCall r given call → r.event ≡ 8 → number_in r.number ≤ room → Acts limits caller (CallOf p call) answer s t past now → length (reports_of answer) ≤ room
@@ -214,6 +221,12 @@ read_fits_event : (r : FlatRequest) (given : List ℕ) (event : Event) (limits :
 read_fits_event r given (CallOf p call) limits caller answer s t past now room asks is fits acts = read_fits_of r given call p limits caller answer s t past now room asks.1 is fits acts
 read_fits_event r given Resume limits caller answer s t past now room asks is fits acts = absurd (omega (arith, asks, is))
 read_fits_event r given (Tick n) limits caller answer s t past now room asks is fits acts = absurd (omega (arith, asks.0, is))
+
+peek_fits_event : (r : FlatRequest) (given : List ℕ) (event : Event) (limits : Limits) (caller : CallerId) (answer : Answer) (s t : State) (past now : List Record) (room : ℕ)
+    → Asks r given event → r.event ≡ 27 → r.count ≤ room → Acts limits caller event answer s t past now → length (bytes_of answer) ≤ room
+peek_fits_event r given (CallOf p call) limits caller answer s t past now room asks is fits acts = peek_fits_of r given call p limits caller answer s t past now room asks.1 is fits acts
+peek_fits_event r given Resume limits caller answer s t past now room asks is fits acts = absurd (omega (arith, asks, is))
+peek_fits_event r given (Tick n) limits caller answer s t past now room asks is fits acts = absurd (omega (arith, asks.0, is))
 
 wait_fits_event : (r : FlatRequest) (given : List ℕ) (event : Event) (limits : Limits) (caller : CallerId) (answer : Answer) (s t : State) (past now : List Record) (room : ℕ)
     → Asks r given event → r.event ≡ 8 → number_in r.number ≤ room → Acts limits caller event answer s t past now → length (reports_of answer) ≤ room
@@ -246,10 +259,12 @@ pub fits : (r : FlatRequest) (given : List ℕ) (event : Event) (limits : Limits
     → Asks r given event → Acts limits (record { 0 = r.caller }) event answer s t past now → lacks_room r bytes reports ≡ false → Fits s r answer bytes reports
 fits r given event limits answer s t past now bytes reports asks acts room =
     let caller : CallerId = record { 0 = r.caller } in
-    let reads = r.event == 9 && nat_lt bytes r.count in
+    let reads = (r.event == 9 || r.event == 27) && nat_lt bytes r.count in
     let waits = r.event == 8 && nat_lt reports (count_of r.number) in record {
       read = λ is. read_fits_event r given event limits caller answer s t past now bytes asks is
-          (ltb-false bytes r.count (and_right (r.event == 9) (nat_lt bytes r.count) (ap (λ k. k == 9) is) (first_of_or reads waits room))) acts;
+          (ltb-false bytes r.count (and_right (r.event == 9 || r.event == 27) (nat_lt bytes r.count) (ap (λ k. k == 9 || k == 27) is) (first_of_or reads waits room))) acts;
+      peek = λ is. peek_fits_event r given event limits caller answer s t past now bytes asks is
+          (ltb-false bytes r.count (and_right (r.event == 9 || r.event == 27) (nat_lt bytes r.count) (ap (λ k. k == 9 || k == 27) is) (first_of_or reads waits room))) acts;
       wait = λ is. wait_fits_event r given event limits caller answer s t past now reports asks is
           (subst (λ (k : ℕ). k ≤ reports) (sym (same_count r.number)) (ltb-false reports (count_of r.number)
           (and_right (r.event == 8) (nat_lt reports (count_of r.number)) (ap (λ k. k == 8) is) (second_of_or reads waits room)))) acts;

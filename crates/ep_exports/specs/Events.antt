@@ -29,6 +29,7 @@ pub record IsLaidOut (answer : Answer) (now : ℕ) (before after : Room) : Type 
 -- the most reports of its wait
 pub record Fits (s : State) (request : FlatRequest) (answer : Answer) (bytes reports : ℕ) : Type 0 where
   pub read : request.event ≡ 9 → length (bytes_of answer) ≤ bytes
+  pub peek : request.event ≡ 27 → length (bytes_of answer) ≤ bytes
   pub wait : request.event ≡ 8 → length (reports_of answer) ≤ reports
   pub resumption : request.event ≡ 20 → (w : Waiter) → waiter_of s request.caller ≡ Some w → w.most ≤ reports
       → length (reports_of answer) ≤ reports

@@ -10,13 +10,14 @@ use ep_handle::Handle;
 use std::alloc::Global;
 
 /// Makes one event, a write with the bytes of `given`, and lays out its answer: 0, and `reply` has it. A refusal is
-/// an answer, too. The bytes of a read go to the beginning of `bytes` and reports to that of `reports`;
+/// an answer, too. The bytes of a read or a peek go to the beginning of `bytes`, and reports to that of `reports`;
 /// `reply.result` tells how many.
 ///
-/// With nothing changed: -EBADF, -EMSGSIZE if `bytes` is shorter than what a read asks for or `reports` than the
-/// most reports of a wait, -ENOSYS if the number of the event is none, -ENOMEM if there is no memory for the
-/// bytes of a write that has some. Of any other event want of memory is the answer ENOMEM. That comes last: if there
-/// is room for the record (`ep_reserve`), no refusal of the machine holds, and some events aren't answered so at all.
+/// With nothing changed: -EBADF, -EMSGSIZE if `bytes` is shorter than what a read or a peek asks for or `reports` than
+/// the most reports of a wait, -ENOSYS if the number of the event is none, or that of a word of it, -ENOMEM if there
+/// is no memory for the bytes of a write that has some. Of any other event want of memory is the answer ENOMEM. That
+/// comes last: if there is room for the record (`ep_reserve`), no refusal of the machine holds, and some events aren't
+/// answered so at all.
 ///
 /// A resumption has at most as many reports as its wait asked for, and what doesn't fit is cut: `ep_recorded` has all
 /// of them.

@@ -4,10 +4,14 @@ ghost use Rattle.ep_base.specs.Errno.{errno_number};
 ghost use Rattle.ep_flat.specs.Flat.{as_result, bytes_of, flat_report, overlaid, plain_reply, refused, reply_of, reports_of};
 
 use crate::flat::{FlatReply, FlatReport};
+use crate::sockets::space_number;
 use ep_base::{Answer, Errno, Report};
 
 /// The answer of a caller that is parked: below the error numbers, of which Linux has at most 4,095.
 const PARKED: i64 = -4_096;
+
+/// The answer of a connection that has begun: minus the number of EINPROGRESS, by which no event is refused.
+const CONNECTING: i64 = -115;
 
 /// The largest result.
 const LARGEST: u64 = 9_223_372_036_854_775_807;
@@ -90,6 +94,14 @@ fn reply_of(answer: &Answer, now: u64) -> FlatReply
         }
         Answer::Parked => reply.result = PARKED,
         Answer::Still => reply.result = PARKED,
+        Answer::Connecting => reply.result = CONNECTING,
+        Answer::Failed(errno) => reply.result = refused(*errno),
+        Answer::Named(None) => {}
+        Answer::Named(Some(name)) => {
+            reply.result = 1;
+            reply.first = space_number(name.space);
+            reply.value = u64::from(name.number);
+        }
         Answer::Refused(errno) => reply.result = refused(*errno),
     }
     reply

@@ -1,17 +1,20 @@
 //! The event that a request asks for.
 ghost use Rattle.std.specs.Prelude.{◌≡◌, ◌<◌, ◌≤◌, ◌⊎◌, [], IfOk, IsOk, List, MatchOption, OnErr, ℕ};
-ghost use Rattle.ep_flat.specs.Flat.{Asks, AsksCall, AsksNothing, lacks_room};
+ghost use Rattle.ep_flat.specs.Flat.{Asks, AsksCall, AsksNoCall, AsksNothing, lacks_room};
 
 use crate::flat::FlatRequest;
+use crate::sockets::{shutdown_of, socket_call_of};
 use ep_base::{Buffer, Call, Event, Fd, Mask, Pid, Span, Timeout};
 use std::alloc::{AllocError, Global};
 
 /// The flags of a request.
-const CLOEXEC: u32 = 1;
+pub(crate) const CLOEXEC: u32 = 1;
 
 const SEMAPHORE: u32 = 2;
 
 const ABSOLUTE: u32 = 4;
+
+pub(crate) const PEER: u32 = 8;
 
 /// The bytes once more, as a write has them.
 fn buffer_of(alloc: Global, bytes: &[u8]) -> Result<Buffer, AllocError>
@@ -48,10 +51,11 @@ fn creation_of(request: &FlatRequest) -> Option<Call>
     })
 }
 
-/// The call on a descriptor or a process, but for a write, or `None` exactly if the number is that of no such call.
+/// The call on a descriptor or a process, but for a write and those of sockets, or `None` exactly if the number is that
+/// of no such call.
 fn other_call_of(request: &FlatRequest) -> Option<Call>
     ensures { (given : List ℕ) → MatchOption result
-        ((request.now.event < 7) ⊎ (request.now.event ≡ 10) ⊎ (20 ≤ request.now.event))
+        ((request.now.event < 7) ⊎ (request.now.event ≡ 10) ⊎ (request.now.event ≡ 11) ⊎ (20 ≤ request.now.event))
         (λ call. AsksCall request.now given call) }
 {
     let fd = Fd(request.fd);
@@ -72,7 +76,6 @@ fn other_call_of(request: &FlatRequest) -> Option<Call>
             fd,
             n: request.count,
         },
-        11 => Call::Shutdown { fd },
         12 => Call::SetTime {
             fd,
             absolute: request.flags & ABSOLUTE != 0,
@@ -93,10 +96,10 @@ fn other_call_of(request: &FlatRequest) -> Option<Call>
     })
 }
 
-/// The call that is asked for, or `None` exactly if the number is that of no call.
+/// The call that is asked for, or `None` exactly if the number is that of no call, or a word of the call is none.
 fn call_of(alloc: Global, request: &FlatRequest, bytes: &[u8]) -> Result<Option<Call>, AllocError>
     ensures ok { IfOk result
-        (λ asked. MatchOption asked ((request.now.event < 1) ⊎ (20 ≤ request.now.event))
+        (λ asked. MatchOption asked (AsksNoCall request.now)
         (λ call. AsksCall request.now bytes.now call)) }
     ensures write { OnErr result (request.now.event ≡ 10) }
     ensures no_bytes { bytes.now ≡ [] → IsOk result }
@@ -110,10 +113,17 @@ fn call_of(alloc: Global, request: &FlatRequest, bytes: &[u8]) -> Result<Option<
             bytes: buffer_of(alloc, bytes)?,
         }));
     }
+    if request.event == 11 {
+        return Ok(shutdown_of(request));
+    }
+    if request.event > 21 {
+        return Ok(socket_call_of(request));
+    }
     Ok(other_call_of(request))
 }
 
-/// The event that is asked for, a write with these bytes, or `None` exactly if the number is that of no event.
+/// The event that is asked for, a write with these bytes, or `None` exactly if the number is that of no event, or that
+/// of a word of it is none: what is shut, a family, or a space.
 /// `AllocError` is want of memory for the bytes: it comes only of a write that has some.
 pub fn event_of(
     alloc: Global,
@@ -140,12 +150,12 @@ pub fn event_of(
     })
 }
 
-/// Whether a read asks for more bytes, or a wait for more reports, than there is room for.
+/// Whether a read or a peek asks for more bytes, or a wait for more reports, than there is room for.
 pub fn lacks_room(request: &FlatRequest, bytes: usize, reports: usize) -> bool
     ensures { result ≡ lacks_room request.now bytes reports }
 {
     match request.event {
-        9 => bytes < request.count as usize,
+        9 | 27 => bytes < request.count as usize,
         8 => request.number > 0 && reports < request.number as usize,
         _ => false,
     }

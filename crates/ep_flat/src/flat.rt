@@ -32,7 +32,7 @@ pub struct FlatLimits {
 /// | 8 | epoll_wait | fd, number (the most reports), timeout |
 /// | 9 | read | fd, count (the most bytes) |
 /// | 10 | write | fd, and the bytes beside the request |
-/// | 11 | shutdown | fd |
+/// | 11 | shutdown | fd, number (0 the reading, 1 the writing, 2 both) |
 /// | 12 | timerfd_settime | fd, flags, value, interval |
 /// | 13 | timerfd_gettime | fd |
 /// | 14 | dup | fd |
@@ -43,6 +43,14 @@ pub struct FlatLimits {
 /// | 19 | exit | |
 /// | 20 | a resumption | no `pid` |
 /// | 21 | a tick | value (how long), no `pid` |
+/// | 22 | socket | number (0 TCP, 1 Unix), flags |
+/// | 23 | bind | fd, number (the space: 0 IPv4, 1 IPv6, 2 Unix), count (the name in it) |
+/// | 24 | listen | fd, number (the backlog) |
+/// | 25 | connect | fd, number and count as of bind |
+/// | 26 | accept4 | fd, flags |
+/// | 27 | recv with MSG_PEEK | fd, count (the most bytes) |
+/// | 28 | getsockname, or getpeername | fd, flags |
+/// | 29 | getsockopt with SO_ERROR | fd |
 ///
 /// Fields that an event doesn't name are not looked at. Times are in microseconds.
 #[repr(C)]
@@ -64,11 +72,12 @@ pub struct FlatRequest {
     pub fd: i32,
     /// The descriptor that is registered, or of dup2 the new one.
     pub target: i32,
-    /// A clock, the operation of an epoll_ctl, or the most reports of a wait.
+    /// A clock, the operation of an epoll_ctl, the most reports of a wait, a backlog, or a word of a socket.
     pub number: i32,
-    /// Where an eventfd starts, the mask of a registration, or the most bytes of a read.
+    /// Where an eventfd starts, the mask of a registration, the most bytes of a read or a peek, or a name.
     pub count: u32,
-    /// 1: close-on-exec; 2: an eventfd as a semaphore; 4: a timer's moment is absolute.
+    /// 1: close-on-exec; 2: an eventfd as a semaphore; 4: a timer's moment is absolute; 8: the name of
+    /// the other end is asked for.
     pub flags: u32,
 }
 
@@ -77,14 +86,15 @@ pub struct FlatRequest {
 #[derive(Clone, Copy, Debug)]
 pub struct FlatReply {
     /// A descriptor, a process, how many bytes or reports there are, or 0 if a call is done and answers no number;
-    /// minus the error number if it is refused; -4096 if its caller is parked, or after a resumption is parked
-    /// still.
+    /// minus the error number if it is refused, or if the error waited at a socket; -115, which is EINPROGRESS, if a
+    /// connection has begun; 1 if a name is asked for and there is one; -4096 if its caller is parked, or after a
+    /// resumption is parked still.
     pub result: i64,
-    /// The lower one of two descriptors that a call made.
+    /// The lower one of two descriptors that a call made, or the space of a name, as bind numbers it.
     pub first: i32,
     /// The other one.
     pub second: i32,
-    /// Of a timer the microseconds until its next expiration, 0 if none comes.
+    /// Of a timer the microseconds until its next expiration, 0 if none comes, or a name in its space.
     pub value: u64,
     /// Of a timer the microseconds between two expirations, 0 if there is one alone.
     pub interval: u64,

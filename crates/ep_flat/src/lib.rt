@@ -4,6 +4,7 @@
 mod answer;
 mod event;
 mod flat;
+mod sockets;
 
 pub use crate::answer::{put_answer, put_bytes, put_given, put_told};
 pub use crate::event::{event_of, lacks_room};

@@ -1,16 +1,20 @@
 -- Calls and records that read back as what they were printed from, where their parts do.
-use Rattle.std.proofs.Common.{Bool, List, SFits, Some, arith, false, length, negsuc, pos, refl, replicate, slice_index, true, w32, w64, ℕ, ℤ, ◌<◌, ◌^◌, ◌≡◌}
+use Rattle.std.proofs.Common.{Bool, List, SFits, Some, arith, codes, false, length, negsuc, pos, refl, replicate, slice_index, true, w32, w64, ℕ, ℤ, ◌<◌, ◌^◌, ◌≡◌}
 use Rattle.std.proofs.lemmas.Bool.{lt-ltb}
 use Rattle.std.proofs.lemmas.Grind.{common_steps}
 use Rattle.hex.specs.Hex.{IsBytes, encode_lower}
 use Rattle.serde_json.specs.Data.{string}
-use Rattle.ep_base.specs.declared.call.Call.TheVariants.{Close, Dup, Dup2, EpollCtl, EpollWait, GetTime, Read, SetTime, Shutdown, Write}
+use Rattle.ep_base.specs.declared.call.Call.TheVariants.{Accept, Bind, Close, Connect, Dup, Dup2, EpollCtl, EpollWait, GetTime, Listen, Peek, Read, SetTime, Shutdown, Write}
 use Rattle.ep_base.specs.declared.ids.Fd.{Fd}
 use Rattle.ep_base.specs.declared.mask.Mask.{Mask}
 use Rattle.ep_base.specs.declared.record.Record.{Record}
+use Rattle.ep_base.specs.declared.socket.How.{How}
+use Rattle.ep_base.specs.declared.socket.How.TheVariants as hows
+use Rattle.ep_base.specs.declared.socket.Space.{Space}
+use Rattle.ep_base.specs.declared.socket.Space.TheVariants.{Local, V4, V6}
 use Rattle.ep_history.specs.Answers.{answer_data, answer_of}
 use Rattle.ep_history.specs.Bytes.{hex_value, is_run}
-use Rattle.ep_history.specs.Calls.{call_data, call_of, of_write}
+use Rattle.ep_history.specs.Calls.{call_data, call_of, of_name, of_write}
 use Rattle.ep_history.specs.Fields.{i32_value, i64_value, integer, natural, size, u32_value}
 use Rattle.ep_history.specs.Records.{event_data, event_of, record_data, record_of}
 use Rattle.ep_history.proofs.FieldLemmas.{naturals_printed}
@@ -66,8 +70,32 @@ pub dup2_again : (fd to : Fd) → i32_value (integer fd.0) ≡ Some fd.0 → i32
     → call_of (call_data (Dup2 fd to)) ≡ Some (Dup2 fd to)
 dup2_again fd to f t = rw (f, t) refl
 
-pub shutdown_again : (fd : Fd) → i32_value (integer fd.0) ≡ Some fd.0 → call_of (call_data (Shutdown fd)) ≡ Some (Shutdown fd)
-shutdown_again fd f = rw f refl
+pub shutdown_again : (fd : Fd) (how : How) → i32_value (integer fd.0) ≡ Some fd.0 → call_of (call_data (Shutdown fd how)) ≡ Some (Shutdown fd how)
+shutdown_again fd hows.Read f = rw f refl
+shutdown_again fd hows.Write f = rw f refl
+shutdown_again fd hows.Both f = rw f refl
+
+pub peek_again : (fd : Fd) (n : ℕ) → i32_value (integer fd.0) ≡ Some fd.0 → n < 2 ^ 32 → call_of (call_data (Peek fd n)) ≡ Some (Peek fd n)
+peek_again fd n f m = rw (f, again_u32 n m) refl
+
+pub bind_again : (fd : Fd) (space : Space) (n : ℕ) → i32_value (integer fd.0) ≡ Some fd.0 → n < 2 ^ 32
+    → call_of (of_name (codes "bind") fd.0 space n) ≡ Some (Bind fd (record { space = space; number = n }))
+bind_again fd V4 n f m = rw (f, again_u32 n m) refl
+bind_again fd V6 n f m = rw (f, again_u32 n m) refl
+bind_again fd Local n f m = rw (f, again_u32 n m) refl
+
+pub connect_again : (fd : Fd) (space : Space) (n : ℕ) → i32_value (integer fd.0) ≡ Some fd.0 → n < 2 ^ 32
+    → call_of (of_name (codes "connect") fd.0 space n) ≡ Some (Connect fd (record { space = space; number = n }))
+connect_again fd V4 n f m = rw (f, again_u32 n m) refl
+connect_again fd V6 n f m = rw (f, again_u32 n m) refl
+connect_again fd Local n f m = rw (f, again_u32 n m) refl
+
+pub listen_again : (fd : Fd) (backlog : ℤ) → i32_value (integer fd.0) ≡ Some fd.0 → SFits w32 backlog
+    → call_of (call_data (Listen fd backlog)) ≡ Some (Listen fd backlog)
+listen_again fd backlog f b = rw (f, again_i32 backlog b) refl
+
+pub accept_again : (fd : Fd) (cloexec : Bool) → i32_value (integer fd.0) ≡ Some fd.0 → call_of (call_data (Accept fd cloexec)) ≡ Some (Accept fd cloexec)
+accept_again fd cloexec f = rw f refl
 
 pub gettime_again : (fd : Fd) → i32_value (integer fd.0) ≡ Some fd.0 → call_of (call_data (GetTime fd)) ≡ Some (GetTime fd)
 gettime_again fd f = rw f refl

@@ -4,9 +4,10 @@ use Rattle.json.specs.Print.{escape, escape_byte}
 use Rattle.hex.specs.Hex.{encode_lower}
 use Rattle.serde_json.specs.Data.{boolean}
 use Rattle.serde_json.specs.Written.{compact_text}
-use Rattle.ep_base.specs.declared.call.Call.TheVariants.{Dup2, EpollCtl, EpollWait, EventFd, Read, SetTime, TimerFd}
+use Rattle.ep_base.specs.declared.call.Call.TheVariants.{Accept, Dup2, EpollCtl, EpollWait, EventFd, Listen, Peek, Read, SetTime, Socket, TimerFd}
 use Rattle.ep_base.specs.declared.ids.Fd.{Fd}
 use Rattle.ep_base.specs.declared.mask.Mask.{Mask}
+use Rattle.ep_base.specs.declared.socket.Family.TheVariants.{Tcp, Unix}
 use Rattle.ep_history.specs.Calls.{call_data, of_write}
 use Rattle.ep_history.specs.Fields.{integer}
 
@@ -34,6 +35,31 @@ pub read_text : (fd : Fd) (n : ℕ) → compact_text (call_data (Read fd n))
     ≡ codes "{\"fd\":" ++ (compact_text (integer fd.0) ++ (codes ",\"n\":" ++ (decimal n ++ codes ",\"op\":\"read\"}")))
 unfolding escape_byte
 read_text fd n = refl
+
+pub peek_text : (fd : Fd) (n : ℕ) → compact_text (call_data (Peek fd n))
+    ≡ codes "{\"fd\":" ++ (compact_text (integer fd.0) ++ (codes ",\"n\":" ++ (decimal n ++ codes ",\"op\":\"peek\"}")))
+unfolding escape_byte
+peek_text fd n = refl
+
+pub tcp_text : (cloexec : Bool) → compact_text (call_data (Socket Tcp cloexec))
+    ≡ codes "{\"cloexec\":" ++ (compact_text (boolean cloexec) ++ codes ",\"family\":\"tcp\",\"op\":\"socket\"}")
+unfolding escape_byte
+tcp_text cloexec = refl
+
+pub unix_text : (cloexec : Bool) → compact_text (call_data (Socket Unix cloexec))
+    ≡ codes "{\"cloexec\":" ++ (compact_text (boolean cloexec) ++ codes ",\"family\":\"unix\",\"op\":\"socket\"}")
+unfolding escape_byte
+unix_text cloexec = refl
+
+pub listen_text : (fd : Fd) (backlog : ℤ) → compact_text (call_data (Listen fd backlog))
+    ≡ codes "{\"backlog\":" ++ (compact_text (integer backlog) ++ (codes ",\"fd\":" ++ (compact_text (integer fd.0) ++ codes ",\"op\":\"listen\"}")))
+unfolding escape_byte
+listen_text fd backlog = refl
+
+pub accept_text : (fd : Fd) (cloexec : Bool) → compact_text (call_data (Accept fd cloexec))
+    ≡ codes "{\"cloexec\":" ++ (compact_text (boolean cloexec) ++ (codes ",\"fd\":" ++ (compact_text (integer fd.0) ++ codes ",\"op\":\"accept\"}")))
+unfolding escape_byte
+accept_text fd cloexec = refl
 
 pub run_text : (fd : ℤ) (bytes : List ℕ) → compact_text (of_write fd bytes true)
     ≡ codes "{\"fd\":" ++ (compact_text (integer fd) ++ (codes ",\"fill\":[" ++ (decimal (slice_index bytes 0) ++ (codes "," ++ (decimal (length bytes) ++ codes "],\"op\":\"write\"}")))))

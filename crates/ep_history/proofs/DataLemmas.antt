@@ -1,15 +1,16 @@
 -- How deep a record nests.
-use Rattle.std.proofs.Common.{Bool, List, [], arith, false, map, true, ℕ, ℤ, ◌∷◌, ◌≤◌}
+use Rattle.std.proofs.Common.{Bool, List, None, Some, [], arith, false, map, true, ℕ, ℤ, ◌∷◌, ◌≤◌}
 use Rattle.serde_json.specs.Data.{depth}
 use Rattle.serde_json.specs.Read.{max_depth}
 use Rattle.ep_base.specs.declared.answer.Answer.{Answer}
-use Rattle.ep_base.specs.declared.answer.Answer.TheVariants.{Bytes, Done, Events, Num, Parked, Refused, Still, Time, Two}
+use Rattle.ep_base.specs.declared.answer.Answer.TheVariants.{Bytes, Connecting, Done, Events, Failed, Named, Num, Parked, Refused, Still, Time, Two}
 use Rattle.ep_base.specs.declared.answer.Report.{Report}
 use Rattle.ep_base.specs.declared.call.Call.{Call}
-use Rattle.ep_base.specs.declared.call.Call.TheVariants.{Write}
+use Rattle.ep_base.specs.declared.call.Call.TheVariants.{Shutdown, SocketName, Write}
 use Rattle.ep_base.specs.declared.call.Event.{Event}
 use Rattle.ep_base.specs.declared.call.Event.TheVariants.{Call as CallOf, Resume, Tick}
 use Rattle.ep_base.specs.declared.record.Record.{Record}
+use Rattle.ep_base.specs.declared.socket.How.TheVariants as hows
 use Rattle.ep_history.specs.Answers.{answer_data, report_data}
 use Rattle.ep_history.specs.Calls.{call_data, of_write}
 use Rattle.ep_history.specs.Bytes.{is_run}
@@ -22,6 +23,11 @@ write_nests fd bytes false = omega arith
 
 call_nests : (c : Call) → depth (call_data c) ≤ 2
 call_nests (Write fd bytes) = write_nests fd.0 bytes (is_run bytes)
+call_nests (Shutdown fd hows.Read) = omega arith
+call_nests (Shutdown fd hows.Write) = omega arith
+call_nests (Shutdown fd hows.Both) = omega arith
+call_nests (SocketName fd false) = omega arith
+call_nests (SocketName fd true) = omega arith
 call_nests call = omega arith
 
 event_nests : (e : Event) → depth (event_data e) ≤ 3
@@ -54,6 +60,10 @@ answer_nests (Events reports) =
 answer_nests (Time value interval) = omega arith
 answer_nests Parked = omega arith
 answer_nests Still = omega arith
+answer_nests Connecting = omega arith
+answer_nests (Failed errno) = omega arith
+answer_nests (Named None) = omega arith
+answer_nests (Named (Some name)) = omega arith
 answer_nests (Refused errno) = omega arith
 
 pub record_nests : (r : Record) → depth (record_data r) ≤ max_depth

@@ -9,7 +9,7 @@ use Rattle.json.proofs.Printed.Plain.{escape_on_plain}
 use Rattle.json.proofs.Printed.Utf8.{are_ascii}
 use Rattle.ep_base.specs.Errno.{errno_name}
 use Rattle.ep_base.specs.declared.errno.Errno.{Errno}
-use Rattle.ep_base.specs.declared.errno.Errno.TheVariants.{Eagain, Ebadf, Ebusy, Eexist, Einval, Eloop, Emfile, Enfile, Enoent, Enomem, Enospc, Enotsock, Eperm, Epipe, Esrch}
+use Rattle.ep_base.specs.declared.errno.Errno.TheVariants.{Eaddrinuse, Eaddrnotavail, Eafnosupport, Eagain, Ealready, Ebadf, Ebusy, Econnaborted, Econnrefused, Econnreset, Eexist, Einval, Eisconn, Eloop, Emfile, Enfile, Enoent, Enomem, Enospc, Enotconn, Enotsock, Eperm, Epipe, Esrch}
 
 -- the first n digits pass the test
 abbrev pass : (ℕ → Bool) → ℕ → Bool
@@ -67,3 +67,12 @@ escape_name Enospc = refl
 escape_name Epipe = refl
 escape_name Eloop = refl
 escape_name Enotsock = refl
+escape_name Eafnosupport = refl
+escape_name Eaddrinuse = refl
+escape_name Eaddrnotavail = refl
+escape_name Econnaborted = refl
+escape_name Econnreset = refl
+escape_name Eisconn = refl
+escape_name Enotconn = refl
+escape_name Econnrefused = refl
+escape_name Ealready = refl

@@ -1,5 +1,5 @@
 -- Records whose numbers fit are read back from their lines.
-use Rattle.std.proofs.Common.{Bool, List, SFits, Some, [], append-nil, ap, ap₂, arith, map, max, false, length, option_and_then, refl, slice_index, suc, sym, true, w32, w64, ℕ, ℤ, ◌<◌, ◌^◌, ◌∷◌, ◌≡◌, ◌≤◌, ◌∙◌}
+use Rattle.std.proofs.Common.{Bool, List, None, SFits, Some, [], append-nil, ap, ap₂, arith, codes, map, max, false, length, option_and_then, refl, slice_index, suc, sym, true, w32, w64, ℕ, ℤ, ◌<◌, ◌^◌, ◌∷◌, ◌≡◌, ◌≤◌, ◌∙◌}
 use Rattle.std.specs.List.{AllByRecursion}
 use Rattle.std.proofs.lemmas.Bool.{lt-ltb}
 use Rattle.std.proofs.lemmas.List.Elements.{recursion_from_All}
@@ -16,23 +16,29 @@ use Rattle.serde_json.specs.View.{items_of}
 use Rattle.serde_json.specs.Written.{compact_text, items_outline, members_outline, outline}
 use Rattle.serde_json.proofs.Texts.{print-outline}
 use Rattle.ep_base.specs.declared.answer.Answer.{Answer}
-use Rattle.ep_base.specs.declared.answer.Answer.TheVariants.{Bytes, Done, Events, Num, Parked, Refused, Still, Time, Two}
+use Rattle.ep_base.specs.declared.answer.Answer.TheVariants.{Bytes, Connecting, Done, Events, Failed, Named, Num, Parked, Refused, Still, Time, Two}
 use Rattle.ep_base.specs.declared.answer.Report.{Report}
 use Rattle.ep_base.specs.declared.call.Call.{Call}
-use Rattle.ep_base.specs.declared.call.Call.TheVariants.{Close, Dup, Dup2, EpollCtl, EpollWait, EventFd, GetTime, Read, SetTime, Shutdown, TimerFd, Write}
+use Rattle.ep_base.specs.declared.call.Call.TheVariants.{Accept, Bind, Close, Connect, Dup, Dup2, EpollCtl, EpollWait, EventFd, GetTime, Listen, Peek, Read, SetTime, Shutdown, Socket, SocketName, TakeError, TimerFd, Write}
 use Rattle.ep_base.specs.declared.call.Event.{Event}
 use Rattle.ep_base.specs.declared.call.Event.TheVariants.{Call as CallOf, Resume, Tick}
 use Rattle.ep_base.specs.declared.errno.Errno.{Errno}
-use Rattle.ep_base.specs.declared.errno.Errno.TheVariants.{Eagain, Ebadf, Ebusy, Eexist, Einval, Eloop, Emfile, Enfile, Enoent, Enomem, Enospc, Enotsock, Eperm, Epipe, Esrch}
+use Rattle.ep_base.specs.declared.errno.Errno.TheVariants.{Eaddrinuse, Eaddrnotavail, Eafnosupport, Eagain, Ealready, Ebadf, Ebusy, Econnaborted, Econnrefused, Econnreset, Eexist, Einval, Eisconn, Eloop, Emfile, Enfile, Enoent, Enomem, Enospc, Enotconn, Enotsock, Eperm, Epipe, Esrch}
 use Rattle.ep_base.specs.declared.record.Record.{Record}
+use Rattle.ep_base.specs.declared.socket.Family.TheVariants.{Tcp, Unix}
+use Rattle.ep_base.specs.declared.socket.How.{How}
+use Rattle.ep_base.specs.declared.socket.How.TheVariants as hows
+use Rattle.ep_base.specs.declared.socket.Space.{Space}
+use Rattle.ep_base.specs.declared.socket.Space.TheVariants.{Local, V4, V6}
 use Rattle.ep_history.specs.Answers.{answer_data, answer_of, report_data, report_of}
 use Rattle.ep_history.specs.Bytes.{accepted, hex_value, is_run}
-use Rattle.ep_history.specs.Calls.{call_data, call_of, of_write}
+use Rattle.ep_history.specs.Calls.{call_data, call_of, of_name, of_shutdown, of_write}
 use Rattle.ep_history.specs.Fields.{natural}
 use Rattle.ep_history.specs.Fits.{AnswerFits, AreLongs, CallFits, EventFits, RecordFits, ReportFits}
 use Rattle.ep_history.specs.Records.{event_data, event_of, line_data, line_record, record_data, record_line, record_of}
 use Rattle.ep_json.specs.Text.{whole}
 use Rattle.ep_history.proofs.CallLemmas.{again_i32, again_u32, close_again, ctl_again, dup_again, dup2_again, gettime_again, read_again, record_again, settime_again, shutdown_again, wait_again, write_again}
+use Rattle.ep_history.proofs.CallLemmas.{accept_again, bind_again, connect_again, listen_again, peek_again}
 use Rattle.ep_history.proofs.DataLemmas.{record_nests}
 use Rattle.ep_history.proofs.EscapeLemmas.{hex_ascii}
 use Rattle.ep_history.proofs.FieldLemmas.{read_back}
@@ -54,6 +60,21 @@ write_told fd bytes true f fits long =
     rw (short_fits fd f, lt-ltb (slice_index bytes 0) (2 ^ 64) (omega (arith, byte)), lt-ltb (length bytes) (2 ^ 64) long) refl
 write_told fd bytes false f fits long = rw (short_fits fd f, hex_ascii bytes fits) refl
 
+shutdown_told : (fd : ℤ) (how : How) → SFits w32 fd → is_told (of_shutdown fd how) ≡ true
+shutdown_told fd hows.Read f = rw (short_fits fd f) refl
+shutdown_told fd hows.Write f = rw (short_fits fd f) refl
+shutdown_told fd hows.Both f = rw (short_fits fd f) refl
+
+bind_told : (fd : ℤ) (space : Space) (n : ℕ) → SFits w32 fd → n < 2 ^ 32 → is_told (of_name (codes "bind") fd space n) ≡ true
+bind_told fd V4 n f h = rw (short_fits fd f, lt-ltb n (2 ^ 64) (below_64 n h)) refl
+bind_told fd V6 n f h = rw (short_fits fd f, lt-ltb n (2 ^ 64) (below_64 n h)) refl
+bind_told fd Local n f h = rw (short_fits fd f, lt-ltb n (2 ^ 64) (below_64 n h)) refl
+
+connect_told : (fd : ℤ) (space : Space) (n : ℕ) → SFits w32 fd → n < 2 ^ 32 → is_told (of_name (codes "connect") fd space n) ≡ true
+connect_told fd V4 n f h = rw (short_fits fd f, lt-ltb n (2 ^ 64) (below_64 n h)) refl
+connect_told fd V6 n f h = rw (short_fits fd f, lt-ltb n (2 ^ 64) (below_64 n h)) refl
+connect_told fd Local n f h = rw (short_fits fd f, lt-ltb n (2 ^ 64) (below_64 n h)) refl
+
 call_told : (c : Call) → CallFits c → is_told (call_data c) ≡ true
 call_told (EventFd init semaphore cloexec) h = rw (lt-ltb init (2 ^ 64) (below_64 init h)) refl
 call_told (TimerFd clock cloexec) h = rw (short_fits clock h) refl
@@ -62,7 +83,17 @@ call_told (EpollCtl epfd op fd mask tag) h =
 call_told (EpollWait epfd max timeout) h = rw (short_fits epfd.0 h.0, short_fits max h.1, integer_fits timeout h.2) refl
 call_told (Read fd n) h = rw (short_fits fd.0 h.0, lt-ltb n (2 ^ 64) (below_64 n h.1)) refl
 call_told (Write fd bytes) h = write_told fd.0 bytes (is_run bytes) h.0 h.1 h.2
-call_told (Shutdown fd) h = rw (short_fits fd.0 h) refl
+call_told (Shutdown fd how) h = shutdown_told fd.0 how h
+call_told (Socket Tcp cloexec) h = refl
+call_told (Socket Unix cloexec) h = refl
+call_told (Peek fd n) h = rw (short_fits fd.0 h.0, lt-ltb n (2 ^ 64) (below_64 n h.1)) refl
+call_told (TakeError fd) h = rw (short_fits fd.0 h) refl
+call_told (SocketName fd false) h = rw (short_fits fd.0 h) refl
+call_told (SocketName fd true) h = rw (short_fits fd.0 h) refl
+call_told (Bind fd name) h = bind_told fd.0 name.space name.number h.0 h.1
+call_told (Listen fd backlog) h = rw (short_fits fd.0 h.0, short_fits backlog h.1) refl
+call_told (Connect fd name) h = connect_told fd.0 name.space name.number h.0 h.1
+call_told (Accept fd cloexec) h = rw (short_fits fd.0 h) refl
 call_told (SetTime fd absolute value interval) h = rw (short_fits fd.0 h.0, lt-ltb value (2 ^ 64) h.1, lt-ltb interval (2 ^ 64) h.2) refl
 call_told (GetTime fd) h = rw (short_fits fd.0 h) refl
 call_told (Dup fd) h = rw (short_fits fd.0 h) refl
@@ -91,6 +122,46 @@ refused_told Enospc = refl
 refused_told Epipe = refl
 refused_told Eloop = refl
 refused_told Enotsock = refl
+refused_told Eafnosupport = refl
+refused_told Eaddrinuse = refl
+refused_told Eaddrnotavail = refl
+refused_told Econnaborted = refl
+refused_told Econnreset = refl
+refused_told Eisconn = refl
+refused_told Enotconn = refl
+refused_told Econnrefused = refl
+refused_told Ealready = refl
+
+failed_told : (e : Errno) → is_told (answer_data (Failed e)) ≡ true
+failed_told Eperm = refl
+failed_told Enoent = refl
+failed_told Esrch = refl
+failed_told Ebadf = refl
+failed_told Eagain = refl
+failed_told Enomem = refl
+failed_told Ebusy = refl
+failed_told Eexist = refl
+failed_told Einval = refl
+failed_told Enfile = refl
+failed_told Emfile = refl
+failed_told Enospc = refl
+failed_told Epipe = refl
+failed_told Eloop = refl
+failed_told Enotsock = refl
+failed_told Eafnosupport = refl
+failed_told Eaddrinuse = refl
+failed_told Eaddrnotavail = refl
+failed_told Econnaborted = refl
+failed_told Econnreset = refl
+failed_told Eisconn = refl
+failed_told Enotconn = refl
+failed_told Econnrefused = refl
+failed_told Ealready = refl
+
+name_told : (space : Space) (n : ℕ) → n < 2 ^ 32 → is_told (answer_data (Named (Some (record { space = space; number = n })))) ≡ true
+name_told V4 n h = rw (lt-ltb n (2 ^ 64) (below_64 n h)) refl
+name_told V6 n h = rw (lt-ltb n (2 ^ 64) (below_64 n h)) refl
+name_told Local n h = rw (lt-ltb n (2 ^ 64) (below_64 n h)) refl
 
 reports_told : (rs : List Report) → AllByRecursion ReportFits rs → items_told (items_of (map report_data rs)) ≡ true
 reports_told [] h = refl
@@ -105,6 +176,10 @@ answer_told (Events reports) h = rw (reports_told reports (recursion_from_All Re
 answer_told (Time value interval) h = rw (lt-ltb value (2 ^ 64) h.0, lt-ltb interval (2 ^ 64) h.1) refl
 answer_told Parked h = refl
 answer_told Still h = refl
+answer_told Connecting h = refl
+answer_told (Failed e) h = failed_told e
+answer_told (Named None) h = refl
+answer_told (Named (Some name)) h = name_told name.space name.number h
 answer_told (Refused e) h = refused_told e
 
 naturals_told : (ns : List ℕ) → AreLongs ns → items_told (items_of (map natural ns)) ≡ true
@@ -153,7 +228,17 @@ call_again (EpollCtl epfd op fd mask tag) h = ctl_again epfd op fd mask tag (aga
 call_again (EpollWait epfd max timeout) h = wait_again epfd max timeout (again_i32 epfd.0 h.0) h.1 h.2
 call_again (Read fd n) h = read_again fd n (again_i32 fd.0 h.0) h.1
 call_again (Write fd bytes) h = write_again fd bytes (again_i32 fd.0 h.0) (hex_again bytes h.1) h.1
-call_again (Shutdown fd) h = shutdown_again fd (again_i32 fd.0 h)
+call_again (Shutdown fd how) h = shutdown_again fd how (again_i32 fd.0 h)
+call_again (Socket Tcp cloexec) h = refl
+call_again (Socket Unix cloexec) h = refl
+call_again (Peek fd n) h = peek_again fd n (again_i32 fd.0 h.0) h.1
+call_again (TakeError fd) h = rw (again_i32 fd.0 h) refl
+call_again (SocketName fd false) h = rw (again_i32 fd.0 h) refl
+call_again (SocketName fd true) h = rw (again_i32 fd.0 h) refl
+call_again (Bind fd name) h = bind_again fd name.space name.number (again_i32 fd.0 h.0) h.1
+call_again (Listen fd backlog) h = listen_again fd backlog (again_i32 fd.0 h.0) h.1
+call_again (Connect fd name) h = connect_again fd name.space name.number (again_i32 fd.0 h.0) h.1
+call_again (Accept fd cloexec) h = accept_again fd cloexec (again_i32 fd.0 h)
 call_again (SetTime fd absolute value interval) h = settime_again fd absolute value interval (again_i32 fd.0 h.0)
 call_again (GetTime fd) h = gettime_again fd (again_i32 fd.0 h)
 call_again (Dup fd) h = dup_again fd (again_i32 fd.0 h)
@@ -189,6 +274,47 @@ refused_again Enospc = refl
 refused_again Epipe = refl
 refused_again Eloop = refl
 refused_again Enotsock = refl
+refused_again Eafnosupport = refl
+refused_again Eaddrinuse = refl
+refused_again Eaddrnotavail = refl
+refused_again Econnaborted = refl
+refused_again Econnreset = refl
+refused_again Eisconn = refl
+refused_again Enotconn = refl
+refused_again Econnrefused = refl
+refused_again Ealready = refl
+
+failed_again : (e : Errno) → answer_of (answer_data (Failed e)) ≡ Some (Failed e)
+failed_again Eperm = refl
+failed_again Enoent = refl
+failed_again Esrch = refl
+failed_again Ebadf = refl
+failed_again Eagain = refl
+failed_again Enomem = refl
+failed_again Ebusy = refl
+failed_again Eexist = refl
+failed_again Einval = refl
+failed_again Enfile = refl
+failed_again Emfile = refl
+failed_again Enospc = refl
+failed_again Epipe = refl
+failed_again Eloop = refl
+failed_again Enotsock = refl
+failed_again Eafnosupport = refl
+failed_again Eaddrinuse = refl
+failed_again Eaddrnotavail = refl
+failed_again Econnaborted = refl
+failed_again Econnreset = refl
+failed_again Eisconn = refl
+failed_again Enotconn = refl
+failed_again Econnrefused = refl
+failed_again Ealready = refl
+
+name_again : (space : Space) (n : ℕ) → n < 2 ^ 32
+    → answer_of (answer_data (Named (Some (record { space = space; number = n })))) ≡ Some (Named (Some (record { space = space; number = n })))
+name_again V4 n h = rw (again_u32 n h) refl
+name_again V6 n h = rw (again_u32 n h) refl
+name_again Local n h = rw (again_u32 n h) refl
 
 answer_again : (a : Answer) → AnswerFits a → answer_of (answer_data a) ≡ Some a
 answer_again Done h = refl
@@ -199,6 +325,10 @@ answer_again (Events reports) h = rw (read_back report_data report_of reports (r
 answer_again (Time value interval) h = refl
 answer_again Parked h = refl
 answer_again Still h = refl
+answer_again Connecting h = refl
+answer_again (Failed e) h = failed_again e
+answer_again (Named None) h = refl
+answer_again (Named (Some name)) h = name_again name.space name.number h
 answer_again (Refused e) h = refused_again e
 
 -- ---- lines

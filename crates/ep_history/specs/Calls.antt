@@ -3,11 +3,16 @@ use Rattle.std.specs.Prelude.{Bool, List, None, Option, Some, [], codes, false, 
 use Rattle.serde_json.specs.Data.{Data, boolean, string}
 use Rattle.serde_json.specs.Find.{as_bool, as_str, get}
 use Rattle.ep_base.specs.declared.call.Call.{Call}
-use Rattle.ep_base.specs.declared.call.Call.TheVariants.{Close, Dup, Dup2, EpollCreate, EpollCtl, EpollWait, EventFd, Exec, Exit, Fork, GetTime, Pipe, Plain, Read, SetTime, Shutdown, SocketPair, TimerFd, Write}
+use Rattle.ep_base.specs.declared.call.Call.TheVariants.{Accept, Bind, Close, Connect, Dup, Dup2, EpollCreate, EpollCtl, EpollWait, EventFd, Exec, Exit, Fork, GetTime, Listen, Peek, Pipe, Plain, Read, SetTime, Shutdown, Socket, SocketName, SocketPair, TakeError, TimerFd, Write}
 use Rattle.ep_base.specs.declared.ids.Fd.{Fd}
+use Rattle.ep_base.specs.declared.socket.How.{How}
+use Rattle.ep_base.specs.declared.socket.How.TheVariants as hows
+use Rattle.ep_base.specs.declared.socket.Name.{Name}
+use Rattle.ep_base.specs.declared.socket.Space.{Space}
 use Rattle.hex.specs.Hex.{encode_lower}
 use Rattle.ep_history.specs.Fields.{i32_value, i64_value, integer, named, natural, object_of, pair, required, size, u32_value, u64_value, ◌>>=◌}
 use Rattle.ep_history.specs.Bytes.{is_run, written}
+use Rattle.ep_history.specs.Sockets.{family_text, family_value, how_text, how_value, space_text, space_value}
 
 -- ---- what is printed
 
@@ -35,6 +40,19 @@ of_write fd bytes true =
     operation (codes "write") ((codes "fd", integer fd) ∷ (codes "fill", pair (natural (slice_index bytes 0)) (natural (length bytes))) ∷ [])
 of_write fd bytes false = operation (codes "write") ((codes "fd", integer fd) ∷ (codes "hex", string (encode_lower bytes)) ∷ [])
 
+-- what goes out is shut if nothing says otherwise
+abbrev pub of_shutdown : ℤ → How → Data
+of_shutdown fd hows.Write = of_fd (codes "shutdown") fd
+of_shutdown fd how = operation (codes "shutdown") ((codes "fd", integer fd) ∷ (codes "how", string (how_text how)) ∷ [])
+
+abbrev pub of_name : List ℕ → ℤ → Space → ℕ → Data
+of_name op fd space number =
+    operation op ((codes "fd", integer fd) ∷ (codes "space", string (space_text space)) ∷ (codes "name", natural number) ∷ [])
+
+abbrev pub name_operation : Bool → List ℕ
+name_operation false = codes "sockname"
+name_operation true = codes "peername"
+
 abbrev pub call_data : Call → Data
 call_data (Pipe cloexec) = of_flag (codes "pipe") cloexec
 call_data (SocketPair cloexec) = of_flag (codes "socketpair") cloexec
@@ -48,7 +66,16 @@ call_data (EpollCtl epfd op fd mask tag) = of_ctl epfd.0 op fd.0 mask.0 tag
 call_data (EpollWait epfd max timeout) = of_wait epfd.0 max timeout
 call_data (Read fd n) = operation (codes "read") ((codes "fd", integer fd.0) ∷ (codes "n", natural n) ∷ [])
 call_data (Write fd bytes) = of_write fd.0 bytes (is_run bytes)
-call_data (Shutdown fd) = of_fd (codes "shutdown") fd.0
+call_data (Shutdown fd how) = of_shutdown fd.0 how
+call_data (Socket family cloexec) =
+    operation (codes "socket") ((codes "family", string (family_text family)) ∷ (codes "cloexec", boolean cloexec) ∷ [])
+call_data (Peek fd n) = operation (codes "peek") ((codes "fd", integer fd.0) ∷ (codes "n", natural n) ∷ [])
+call_data (TakeError fd) = of_fd (codes "sockerr") fd.0
+call_data (SocketName fd peer) = of_fd (name_operation peer) fd.0
+call_data (Bind fd name) = of_name (codes "bind") fd.0 name.space name.number
+call_data (Listen fd backlog) = operation (codes "listen") ((codes "fd", integer fd.0) ∷ (codes "backlog", integer backlog) ∷ [])
+call_data (Connect fd name) = of_name (codes "connect") fd.0 name.space name.number
+call_data (Accept fd cloexec) = operation (codes "accept") ((codes "fd", integer fd.0) ∷ (codes "cloexec", boolean cloexec) ∷ [])
 call_data (SetTime fd absolute value interval) =
     operation (codes "settime") ((codes "fd", integer fd.0) ∷ (codes "abs", boolean absolute) ∷
     (codes "value", natural value) ∷ (codes "interval", natural interval) ∷ [])
@@ -84,8 +111,62 @@ fd_call make d = do
   fd ← required (codes "fd") i32_value d
   Some (make (record { 0 = fd }))
 
+-- what goes out is shut if nothing says otherwise
+abbrev pub how_under : Option Data → Option How
+how_under None = Some hows.Write
+how_under (Some d) = how_value d
+
 abbrev pub shutdown_call : Data → Option Call
-shutdown_call = fd_call (λ fd. Shutdown fd)
+shutdown_call d = do
+  fd ← required (codes "fd") i32_value d
+  how ← how_under (get (codes "how") d)
+  Some (Shutdown (record { 0 = fd }) how)
+
+abbrev pub socket_call : Data → Option Call
+socket_call d = do
+  family ← required (codes "family") family_value d
+  cloexec ← required (codes "cloexec") as_bool d
+  Some (Socket family cloexec)
+
+abbrev pub peek_call : Data → Option Call
+peek_call d = do
+  fd ← required (codes "fd") i32_value d
+  n ← required (codes "n") u32_value d
+  Some (Peek (record { 0 = fd }) n)
+
+abbrev pub sockerr_call : Data → Option Call
+sockerr_call = fd_call (λ fd. TakeError fd)
+
+abbrev pub sockname_call : Data → Option Call
+sockname_call = fd_call (λ fd. SocketName fd false)
+
+abbrev pub peername_call : Data → Option Call
+peername_call = fd_call (λ fd. SocketName fd true)
+
+abbrev pub name_call : (Fd → Name → Call) → Data → Option Call
+name_call make d = do
+  fd ← required (codes "fd") i32_value d
+  space ← required (codes "space") space_value d
+  number ← required (codes "name") u32_value d
+  Some (make (record { 0 = fd }) (record { space = space; number = number }))
+
+abbrev pub bind_call : Data → Option Call
+bind_call = name_call (λ fd name. Bind fd name)
+
+abbrev pub connect_call : Data → Option Call
+connect_call = name_call (λ fd name. Connect fd name)
+
+abbrev pub listen_call : Data → Option Call
+listen_call d = do
+  fd ← required (codes "fd") i32_value d
+  backlog ← required (codes "backlog") i32_value d
+  Some (Listen (record { 0 = fd }) backlog)
+
+abbrev pub accept_call : Data → Option Call
+accept_call d = do
+  fd ← required (codes "fd") i32_value d
+  cloexec ← required (codes "cloexec") as_bool d
+  Some (Accept (record { 0 = fd }) cloexec)
 
 abbrev pub gettime_call : Data → Option Call
 gettime_call = fd_call (λ fd. GetTime fd)
@@ -151,6 +232,19 @@ dup2_call d = do
   to ← required (codes "to") i32_value d
   Some (Dup2 (record { 0 = fd }) (record { 0 = to }))
 
+-- those that only sockets have
+abbrev pub socket_operations : List (List ℕ × (Data → Option Call))
+socket_operations =
+    (codes "socket", socket_call) ∷
+    (codes "bind", bind_call) ∷
+    (codes "listen", listen_call) ∷
+    (codes "connect", connect_call) ∷
+    (codes "accept", accept_call) ∷
+    (codes "peek", peek_call) ∷
+    (codes "sockname", sockname_call) ∷
+    (codes "peername", peername_call) ∷
+    (codes "sockerr", sockerr_call) ∷ []
+
 abbrev pub other_operations : List (List ℕ × (Data → Option Call))
 other_operations =
     (codes "pipe", pipe_call) ∷
@@ -170,7 +264,7 @@ other_operations =
     (codes "close", close_call) ∷
     (codes "fork", λ d. Some Fork) ∷
     (codes "exec", λ d. Some Exec) ∷
-    (codes "exit", λ d. Some Exit) ∷ []
+    (codes "exit", λ d. Some Exit) ∷ socket_operations
 
 abbrev pub operations : List (List ℕ × (Data → Option Call))
 operations = (codes "write", write_call) ∷ other_operations

@@ -1,13 +1,13 @@
 -- The numbers of a record are those that its types can hold.
 use Rattle.std.specs.Int.{w32, w64}
 use Rattle.std.specs.List.{slice_index}
-use Rattle.std.specs.Prelude.{All, FitsSigned, List, length, ⊤, ◌<◌, ◌^◌, ℕ}
+use Rattle.std.specs.Prelude.{All, FitsSigned, List, None, Some, length, ⊤, ◌<◌, ◌^◌, ℕ}
 use Rattle.hex.specs.Hex.{IsBytes}
 use Rattle.ep_base.specs.declared.answer.Answer.{Answer}
-use Rattle.ep_base.specs.declared.answer.Answer.TheVariants.{Bytes, Done, Events, Num, Parked, Refused, Still, Time, Two}
+use Rattle.ep_base.specs.declared.answer.Answer.TheVariants.{Bytes, Connecting, Done, Events, Failed, Named, Num, Parked, Refused, Still, Time, Two}
 use Rattle.ep_base.specs.declared.answer.Report.{Report}
 use Rattle.ep_base.specs.declared.call.Call.{Call}
-use Rattle.ep_base.specs.declared.call.Call.TheVariants.{Close, Dup, Dup2, EpollCreate, EpollCtl, EpollWait, EventFd, Exec, Exit, Fork, GetTime, Pipe, Plain, Read, SetTime, Shutdown, SocketPair, TimerFd, Write}
+use Rattle.ep_base.specs.declared.call.Call.TheVariants.{Accept, Bind, Close, Connect, Dup, Dup2, EpollCreate, EpollCtl, EpollWait, EventFd, Exec, Exit, Fork, GetTime, Listen, Peek, Pipe, Plain, Read, SetTime, Shutdown, Socket, SocketName, SocketPair, TakeError, TimerFd, Write}
 use Rattle.ep_base.specs.declared.call.Event.{Event}
 use Rattle.ep_base.specs.declared.call.Event.TheVariants.{Call as CallOf, Resume, Tick}
 use Rattle.ep_base.specs.declared.ids.Fd.{Fd}
@@ -31,7 +31,15 @@ CallFits (EpollCtl epfd op fd mask tag) = FdFits epfd × FitsSigned w32 op × Fd
 CallFits (EpollWait epfd max timeout) = FdFits epfd × FitsSigned w32 max × FitsSigned w64 timeout
 CallFits (Read fd n) = FdFits fd × (n < 2 ^ 32)
 CallFits (Write fd bytes) = FdFits fd × IsBytes bytes × (length bytes < 2 ^ 64)
-CallFits (Shutdown fd) = FdFits fd
+CallFits (Shutdown fd how) = FdFits fd
+CallFits (Socket family cloexec) = ⊤
+CallFits (Peek fd n) = FdFits fd × (n < 2 ^ 32)
+CallFits (TakeError fd) = FdFits fd
+CallFits (SocketName fd peer) = FdFits fd
+CallFits (Bind fd name) = FdFits fd × (name.number < 2 ^ 32)
+CallFits (Listen fd backlog) = FdFits fd × FitsSigned w32 backlog
+CallFits (Connect fd name) = FdFits fd × (name.number < 2 ^ 32)
+CallFits (Accept fd cloexec) = FdFits fd
 CallFits (SetTime fd absolute value interval) = FdFits fd × (value < 2 ^ 64) × (interval < 2 ^ 64)
 CallFits (GetTime fd) = FdFits fd
 CallFits (Dup fd) = FdFits fd
@@ -58,6 +66,10 @@ AnswerFits (Events reports) = All ReportFits reports
 AnswerFits (Time value interval) = (value < 2 ^ 64) × (interval < 2 ^ 64)
 AnswerFits Parked = ⊤
 AnswerFits Still = ⊤
+AnswerFits Connecting = ⊤
+AnswerFits (Failed errno) = ⊤
+AnswerFits (Named None) = ⊤
+AnswerFits (Named (Some name)) = name.number < 2 ^ 32
 AnswerFits (Refused errno) = ⊤
 
 -- of each field

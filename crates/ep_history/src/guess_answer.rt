@@ -3,7 +3,7 @@
 use crate::cursor::Cursor;
 use crate::digits::decoded;
 use crate::read_answer::errno_of;
-use ep_base::{Answer, Bytes, Fd, Mask, Report, Reports, Span};
+use ep_base::{Answer, Bytes, Errno, Fd, Mask, Name, Report, Reports, Space, Span};
 use smallvec::SmallVec;
 use std::alloc::Global;
 
@@ -58,12 +58,47 @@ fn time(line: &mut Cursor<'_>) -> Option<Answer> {
     Some(Answer::Time { value, interval })
 }
 
-fn refused(line: &mut Cursor<'_>) -> Option<Answer> {
+#[inline(always)]
+fn errno(line: &mut Cursor<'_>) -> Option<Errno> {
     let errno = errno_of(line.natural32()?)?;
     line.expect(b",\"")?;
     line.expect(errno.name().as_bytes())?;
     line.expect(b"\"]")?;
-    Some(Answer::Refused(errno))
+    Some(errno)
+}
+
+/// The space whose word comes next, with the quotation mark behind it.
+pub(crate) fn space_in(line: &mut Cursor<'_>) -> Option<Space> {
+    match line.text()? {
+        b"v4" => Some(Space::V4),
+        b"v6" => Some(Space::V6),
+        b"local" => Some(Space::Local),
+        _ => None,
+    }
+}
+
+fn name(line: &mut Cursor<'_>) -> Option<Name> {
+    let space = space_in(line)?;
+    line.expect(b",")?;
+    let number = line.natural32()?;
+    line.expect(b"]")?;
+    Some(Name { space, number })
+}
+
+/// An answer that only sockets give. It stands apart, so that other lines don't pay for it.
+#[inline(never)]
+fn of_socket(line: &mut Cursor<'_>) -> Option<Answer> {
+    if line.take(b"connecting\":true") {
+        return Some(Answer::Connecting);
+    }
+    if line.take(b"failed\":[") {
+        return Some(Answer::Failed(errno(line)?));
+    }
+    if line.take(b"name\":null") {
+        return Some(Answer::Named(None));
+    }
+    line.expect(b"name\":[\"")?;
+    Some(Answer::Named(Some(name(line)?)))
 }
 
 fn report(line: &mut Cursor<'_>) -> Option<Report> {
@@ -99,7 +134,7 @@ fn other(line: &mut Cursor<'_>) -> Option<Answer> {
         return Some(Answer::Done);
     }
     if line.take(b"err\":[") {
-        return refused(line);
+        return Some(Answer::Refused(errno(line)?));
     }
     if line.take(b"parked\":true") {
         return Some(Answer::Parked);
@@ -110,8 +145,10 @@ fn other(line: &mut Cursor<'_>) -> Option<Answer> {
     if line.take(b"two\":[") {
         return two(line);
     }
-    line.expect(b"time\":[")?;
-    time(line)
+    if line.take(b"time\":[") {
+        return time(line);
+    }
+    of_socket(line)
 }
 
 fn raw_answer<'a>(alloc: Global, line: &mut Cursor<'a>) -> Option<RawAnswer<'a>> {

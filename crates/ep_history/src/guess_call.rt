@@ -2,7 +2,8 @@
 
 use crate::cursor::Cursor;
 use crate::digits::decoded;
-use ep_base::{Buffer, Call, Fd, Mask, Span, Timeout};
+use crate::guess_answer::space_in;
+use ep_base::{Buffer, Call, Family, Fd, How, Mask, Name, Span, Timeout};
 use std::alloc::Global;
 
 /// A call as it stands in a line: the bytes of a write are left as their digits, since these may be many, and the rest
@@ -88,10 +89,36 @@ fn eventfd(line: &mut Cursor<'_>, cloexec: bool) -> Option<Call> {
     })
 }
 
+fn family(line: &mut Cursor<'_>) -> Option<Family> {
+    match line.text()? {
+        b"tcp" => Some(Family::Tcp),
+        b"unix" => Some(Family::Unix),
+        _ => None,
+    }
+}
+
+fn socket(line: &mut Cursor<'_>, cloexec: bool) -> Option<Call> {
+    let family = family(line)?;
+    line.expect(b",\"op\":\"socket\"}")?;
+    Some(Call::Socket { family, cloexec })
+}
+
+fn accept(line: &mut Cursor<'_>, cloexec: bool) -> Option<Call> {
+    let fd = fd(line)?;
+    line.expect(b",\"op\":\"accept\"}")?;
+    Some(Call::Accept { fd, cloexec })
+}
+
 fn maker(line: &mut Cursor<'_>) -> Option<Call> {
     let cloexec = line.flag()?;
     if line.take(b",\"init\":") {
         return eventfd(line, cloexec);
+    }
+    if line.take(b",\"fd\":") {
+        return accept(line, cloexec);
+    }
+    if line.take(b",\"family\":\"") {
+        return socket(line, cloexec);
     }
     line.expect(b",\"op\":\"")?;
     let op = line.text()?;
@@ -115,10 +142,14 @@ fn wait(line: &mut Cursor<'_>) -> Option<Call> {
     Some(Call::EpollWait { epfd, max, timeout })
 }
 
+/// A read or a peek.
 fn read(line: &mut Cursor<'_>, fd: Fd) -> Option<Call> {
     let n = line.natural32()?;
-    line.expect(b",\"op\":\"read\"}")?;
-    Some(Call::Read { fd, n })
+    if line.take(b",\"op\":\"read\"}") {
+        return Some(Call::Read { fd, n });
+    }
+    line.expect(b",\"op\":\"peek\"}")?;
+    Some(Call::Peek { fd, n })
 }
 
 fn write<'a>(line: &mut Cursor<'a>, fd: Fd) -> Option<RawCall<'a>> {
@@ -147,19 +178,67 @@ fn dup2(line: &mut Cursor<'_>, from: Fd) -> Option<Call> {
 
 /// A call that has no more than a descriptor.
 fn plain(line: &mut Cursor<'_>, fd: Fd) -> Option<Call> {
-    line.expect(b",\"op\":\"")?;
     let op = line.text()?;
     if line.take(b",\"to\":") {
         return dup2(line, fd);
     }
     line.expect(b"}")?;
     match op {
-        b"shutdown" => Some(Call::Shutdown { fd }),
+        b"shutdown" => Some(Call::Shutdown {
+            fd,
+            how: How::Write,
+        }),
         b"gettime" => Some(Call::GetTime { fd }),
         b"dup" => Some(Call::Dup { fd }),
         b"close" => Some(Call::Close { fd }),
+        b"sockname" => Some(Call::SocketName { fd, peer: false }),
+        b"peername" => Some(Call::SocketName { fd, peer: true }),
+        b"sockerr" => Some(Call::TakeError { fd }),
         _ => None,
     }
+}
+
+fn shutdown(line: &mut Cursor<'_>, fd: Fd) -> Option<Call> {
+    let how = match line.text()? {
+        b"rd" => How::Read,
+        b"rdwr" => How::Both,
+        _ => return None,
+    };
+    line.expect(b",\"op\":\"shutdown\"}")?;
+    Some(Call::Shutdown { fd, how })
+}
+
+fn named(line: &mut Cursor<'_>, fd: Fd) -> Option<Call> {
+    let number = line.natural32()?;
+    line.expect(b",\"op\":\"")?;
+    let op = line.text()?;
+    line.expect(b",\"space\":\"")?;
+    let space = space_in(line)?;
+    line.expect(b"}")?;
+    let name = Name { space, number };
+    match op {
+        b"bind" => Some(Call::Bind { fd, name }),
+        b"connect" => Some(Call::Connect { fd, name }),
+        _ => None,
+    }
+}
+
+/// A call on a socket that has a word or a name. It stands apart, so that other lines don't pay for it.
+#[inline(never)]
+fn on_socket(line: &mut Cursor<'_>, fd: Fd) -> Option<Call> {
+    if line.take(b",\"how\":\"") {
+        return shutdown(line, fd);
+    }
+    line.expect(b",\"name\":")?;
+    named(line, fd)
+}
+
+fn listen(line: &mut Cursor<'_>) -> Option<Call> {
+    let backlog = line.integer32()?;
+    line.expect(b",\"fd\":")?;
+    let fd = fd(line)?;
+    line.expect(b",\"op\":\"listen\"}")?;
+    Some(Call::Listen { fd, backlog })
 }
 
 fn on_fd<'a>(line: &mut Cursor<'a>) -> Option<RawCall<'a>> {
@@ -173,7 +252,10 @@ fn on_fd<'a>(line: &mut Cursor<'a>) -> Option<RawCall<'a>> {
     if line.take(b",\"fill\":[") {
         return Some(RawCall::Whole(fill(line, fd)?));
     }
-    Some(RawCall::Whole(plain(line, fd)?))
+    if line.take(b",\"op\":\"") {
+        return Some(RawCall::Whole(plain(line, fd)?));
+    }
+    Some(RawCall::Whole(on_socket(line, fd)?))
 }
 
 fn bare(line: &mut Cursor<'_>) -> Option<Call> {
@@ -203,6 +285,9 @@ fn other(line: &mut Cursor<'_>) -> Option<Call> {
     }
     if line.take(b"{\"abs\":") {
         return settime(line);
+    }
+    if line.take(b"{\"backlog\":") {
+        return listen(line);
     }
     line.expect(b"{\"op\":\"")?;
     bare(line)

@@ -1,13 +1,15 @@
 //! An answer to the text of its object.
-ghost use Rattle.std.specs.Prelude.{◌≡◌, ◌++◌, All, OnOk, codes, decimal, false, map};
+ghost use Rattle.std.specs.Prelude.{◌≡◌, ◌++◌, All, OnOk, Some, codes, decimal, false, map};
 ghost use Rattle.serde_json.specs.View.{items_of};
 ghost use Rattle.serde_json.specs.Written.{comma_if, compact_text, items_text};
-ghost use Rattle.ep_base.specs.declared.answer.Answer.TheVariants.{Bytes, Events, Num, Refused, Time, Two};
+ghost use Rattle.ep_base.specs.declared.answer.Answer.TheVariants.{Bytes, Events, Failed, Named, Num, Refused, Time, Two};
+ghost use Rattle.ep_base.specs.Errno.{errno_name, errno_number};
 ghost use Rattle.ep_history.specs.Answers.{answer_data, report_data};
 ghost use Rattle.ep_history.specs.Fits.{AnswerFits, ReportFits};
 
 use crate::push::{push_descriptor, push_hex, push_natural};
-use ep_base::{Answer, Errno, Fd, Report, Span};
+use crate::words::space_text;
+use ep_base::{Answer, Errno, Fd, Name, Report, Span};
 use std::alloc::AllocError;
 
 fn push_num(out: &mut Vec<u8>, number: u64) -> Result<(), AllocError>
@@ -103,14 +105,46 @@ fn push_time(out: &mut Vec<u8>, value: Span, interval: Span) -> Result<(), Alloc
     Ok(())
 }
 
+/// Puts this text, which ends in a bracket, and the rest of the object of an error.
+#[inline(always)]
+fn push_errno(out: &mut Vec<u8>, text: &[u8], errno: Errno) -> Result<(), AllocError>
+    ensures { OnOk result (out.new.items
+        ≡ out.old.items ++ (text.now ++ (decimal (errno_number errno) ++ (codes ",\"" ++ (errno_name errno ++ codes "\"]}"))))) }
+{
+    push_natural(out, text, u64::from(errno.number()))?;
+    out.extend_from_slice(b",\"")?;
+    out.extend_from_slice(errno.name().as_bytes())?;
+    out.extend_from_slice(b"\"]}")?;
+    Ok(())
+}
+
 fn push_err(out: &mut Vec<u8>, errno: Errno) -> Result<(), AllocError>
     ensures { OnOk result (out.new.items
         ≡ out.old.items ++ compact_text (answer_data (Refused errno))) }
 {
-    push_natural(out, b"{\"err\":[", u64::from(errno.number()))?;
-    out.extend_from_slice(b",\"")?;
-    out.extend_from_slice(errno.name().as_bytes())?;
-    out.extend_from_slice(b"\"]}")?;
+    push_errno(out, b"{\"err\":[", errno)
+}
+
+#[cold]
+#[inline(never)]
+fn push_failed(out: &mut Vec<u8>, errno: Errno) -> Result<(), AllocError>
+    ensures { OnOk result (out.new.items
+        ≡ out.old.items ++ compact_text (answer_data (Failed errno))) }
+{
+    push_errno(out, b"{\"failed\":[", errno)
+}
+
+#[cold]
+#[inline(never)]
+fn push_name(out: &mut Vec<u8>, name: Name) -> Result<(), AllocError>
+    ensures text { OnOk result (out.new.items
+        ≡ out.old.items ++ compact_text (answer_data (Named (Some name)))) }
+    ensures fits { OnOk result (AnswerFits (Named (Some name))) }
+{
+    out.extend_from_slice(b"{\"name\":[\"")?;
+    out.extend_from_slice(space_text(name.space).as_bytes())?;
+    push_natural(out, b"\",", u64::from(name.number))?;
+    out.extend_from_slice(b"]}")?;
     Ok(())
 }
 
@@ -130,6 +164,10 @@ pub(crate) fn push_answer(out: &mut Vec<u8>, answer: &Answer) -> Result<(), Allo
         Answer::Time { value, interval } => push_time(out, *value, *interval),
         Answer::Parked => out.extend_from_slice(b"{\"parked\":true}"),
         Answer::Still => out.extend_from_slice(b"{\"still\":true}"),
+        Answer::Connecting => out.extend_from_slice(b"{\"connecting\":true}"),
+        Answer::Failed(errno) => push_failed(out, *errno),
+        Answer::Named(None) => out.extend_from_slice(b"{\"name\":null}"),
+        Answer::Named(Some(name)) => push_name(out, *name),
         Answer::Refused(errno) => push_err(out, *errno),
     }
 }

@@ -7,13 +7,14 @@ ghost use Rattle.ep_history.specs.Calls.{call_data};
 ghost use Rattle.ep_history.specs.Fields.{integer};
 ghost use Rattle.ep_history.specs.Fits.{CallFits, FdFits};
 
+use crate::print_socket::{push_on_socket, push_shutdown, push_socket};
 use crate::print_write::push_write;
 use crate::push::{push_descriptor, push_flag, push_integer, push_natural};
 use ep_base::{Call, Fd, Mask, Span, Timeout};
 use std::alloc::AllocError;
 
 /// Puts an object with this flag and the text behind it.
-fn push_cloexec(out: &mut Vec<u8>, cloexec: bool, rest: &[u8]) -> Result<(), AllocError>
+pub(crate) fn push_cloexec(out: &mut Vec<u8>, cloexec: bool, rest: &[u8]) -> Result<(), AllocError>
     ensures { OnOk result (out.new.items
         ≡ out.old.items ++ (codes "{\"cloexec\":" ++ (compact_text (boolean cloexec) ++ rest.now))) }
 {
@@ -23,7 +24,7 @@ fn push_cloexec(out: &mut Vec<u8>, cloexec: bool, rest: &[u8]) -> Result<(), All
 }
 
 /// Puts an object with this descriptor and the text behind it.
-fn push_fd(out: &mut Vec<u8>, fd: Fd, rest: &[u8]) -> Result<(), AllocError>
+pub(crate) fn push_fd(out: &mut Vec<u8>, fd: Fd, rest: &[u8]) -> Result<(), AllocError>
     ensures text { OnOk result (out.new.items
         ≡ out.old.items ++ (codes "{\"fd\":" ++ (compact_text (integer fd.0) ++ rest.now))) }
     ensures fits { OnOk result (FdFits fd) }
@@ -163,7 +164,15 @@ pub(crate) fn push_call(out: &mut Vec<u8>, call: &Call) -> Result<(), AllocError
         Call::EpollWait { epfd, max, timeout } => push_wait(out, *epfd, *max, *timeout),
         Call::Read { fd, n } => push_read(out, *fd, *n),
         Call::Write { fd, bytes } => push_write(out, *fd, bytes),
-        Call::Shutdown { fd } => push_fd(out, *fd, b",\"op\":\"shutdown\"}"),
+        Call::Shutdown { fd, how } => push_shutdown(out, *fd, *how),
+        Call::Socket { family, cloexec } => push_socket(out, *family, *cloexec),
+        Call::Peek { .. }
+        | Call::TakeError { .. }
+        | Call::SocketName { .. }
+        | Call::Bind { .. }
+        | Call::Listen { .. }
+        | Call::Connect { .. }
+        | Call::Accept { .. } => push_on_socket(out, call),
         Call::SetTime {
             fd,
             absolute,

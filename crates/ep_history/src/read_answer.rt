@@ -1,12 +1,13 @@
 //! An answer from its object.
 ghost use Rattle.std.specs.Prelude.{◌≡◌, IfOk, option_map};
 ghost use Rattle.serde_json.specs.View.{view};
-ghost use Rattle.ep_history.specs.Answers.{affirmed, answer_of, answers, bytes_answer, err_answer, errnos, events_answer, numbered, other_answers, report_of, time_answer, two_answer};
+ghost use Rattle.ep_history.specs.Answers.{affirmed, answer_of, answers, bytes_answer, err_answer, errno_in, errnos, events_answer, failed_answer, name_answer, name_of, numbered, other_answers, report_of, time_answer, two_answer};
 ghost use Rattle.ep_history.specs.Fields.{each_of, named};
 
 use crate::bytes::hex_bytes;
 use crate::fields::{i32_value, pair_of, single, u32_value};
-use ep_base::{Answer, Bytes, Errno, Fd, Mask, Report, Reports, Span};
+use crate::words::space_value;
+use ep_base::{Answer, Bytes, Errno, Fd, Mask, Name, Report, Reports, Span};
 use serde_json::Value;
 use smallvec::SmallVec;
 use std::alloc::{AllocError, Global};
@@ -98,20 +99,60 @@ pub(crate) fn errno_of(number: u32) -> Option<Errno>
         32 => Some(Errno::Epipe),
         40 => Some(Errno::Eloop),
         88 => Some(Errno::Enotsock),
+        97 => Some(Errno::Eafnosupport),
+        98 => Some(Errno::Eaddrinuse),
+        99 => Some(Errno::Eaddrnotavail),
+        103 => Some(Errno::Econnaborted),
+        104 => Some(Errno::Econnreset),
+        106 => Some(Errno::Eisconn),
+        107 => Some(Errno::Enotconn),
+        111 => Some(Errno::Econnrefused),
+        114 => Some(Errno::Ealready),
         _ => None,
+    }
+}
+
+/// The error of a list of its number and its name.
+fn errno_in(value: &Value) -> Option<Errno>
+    ensures { result ≡ errno_in (view value.now) }
+{
+    let (number, name) = pair_of(value)?;
+    let errno = errno_of(u32_value(number)?)?;
+    if name.as_str()? == errno.name() {
+        Some(errno)
+    } else {
+        None
     }
 }
 
 fn err_answer(value: &Value) -> Option<Answer>
     ensures { result ≡ err_answer (view value.now) }
 {
-    let (number, name) = pair_of(value)?;
-    let errno = errno_of(u32_value(number)?)?;
-    if name.as_str()? == errno.name() {
-        Some(Answer::Refused(errno))
-    } else {
-        None
+    Some(Answer::Refused(errno_in(value)?))
+}
+
+fn failed_answer(value: &Value) -> Option<Answer>
+    ensures { result ≡ failed_answer (view value.now) }
+{
+    Some(Answer::Failed(errno_in(value)?))
+}
+
+fn name_of(value: &Value) -> Option<Name>
+    ensures { result ≡ name_of (view value.now) }
+{
+    let (space, number) = pair_of(value)?;
+    let space = space_value(space)?;
+    let number = u32_value(number)?;
+    Some(Name { space, number })
+}
+
+fn name_answer(value: &Value) -> Option<Answer>
+    ensures { result ≡ name_answer (view value.now) }
+{
+    if value.is_null() {
+        return Some(Answer::Named(None));
     }
+    Some(Answer::Named(Some(name_of(value)?)))
 }
 
 /// An answer without a list.
@@ -126,6 +167,9 @@ fn other_answer(key: &str, value: &Value) -> Option<Answer>
         "parked" => affirmed(value, Answer::Parked),
         "still" => affirmed(value, Answer::Still),
         "err" => err_answer(value),
+        "connecting" => affirmed(value, Answer::Connecting),
+        "failed" => failed_answer(value),
+        "name" => name_answer(value),
         _ => None,
     }
 }

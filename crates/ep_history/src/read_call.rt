@@ -1,13 +1,14 @@
 //! A call from its object.
 ghost use Rattle.std.specs.Prelude.{◌≡◌, IfOk, option_map};
 ghost use Rattle.serde_json.specs.View.{view};
-ghost use Rattle.ep_history.specs.Calls.{call_of, close_call, ctl_call, dup2_call, dup_call, epoll_call, eventfd_call, gettime_call, other_operations, operations, pipe_call, plain_call, read_call, settime_call, shutdown_call, socketpair_call, timerfd_call, wait_call, write_call};
-ghost use Rattle.ep_history.specs.Calls.{call_data};
+ghost use Rattle.ep_history.specs.Calls.{call_of, close_call, ctl_call, dup2_call, dup_call, epoll_call, eventfd_call, gettime_call, other_operations, operations, pipe_call, plain_call, read_call, settime_call, socketpair_call, timerfd_call, wait_call, write_call};
+ghost use Rattle.ep_history.specs.Calls.{call_data, of_shutdown};
 ghost use Rattle.ep_history.specs.Fields.{named, size};
 
 use crate::bytes::written;
 use crate::fields::{required_flag, required_i32, required_i64, required_u32, required_u64, size};
-use ep_base::{Call, Fd, Mask, Span, Timeout};
+use crate::read_socket::{call_of_socket, shutdown_call};
+use ep_base::{Call, Fd, How, Mask, Span, Timeout};
 use serde_json::Value;
 use std::alloc::{AllocError, Global};
 
@@ -106,13 +107,6 @@ fn write_call(alloc: Global, value: &Value) -> Result<Option<Call>, AllocError>
     Ok(Some(Call::Write { fd: Fd(fd), bytes }))
 }
 
-fn shutdown_call(value: &Value) -> Option<Call>
-    ensures { result ≡ shutdown_call (view value.now) }
-{
-    let fd = Fd(required_i32(value, "fd")?);
-    Some(Call::Shutdown { fd })
-}
-
 fn settime_call(line: &Value) -> Option<Call>
     ensures { result ≡ settime_call (view line.now) }
 {
@@ -180,7 +174,7 @@ fn other_call(op: &str, value: &Value) -> Option<Call>
         "fork" => Some(Call::Fork),
         "exec" => Some(Call::Exec),
         "exit" => Some(Call::Exit),
-        _ => None,
+        _ => call_of_socket(op, value),
     }
 }
 
@@ -193,6 +187,17 @@ fn operation(alloc: Global, op: &str, value: &Value) -> Result<Option<Call>, All
     }
 }
 
+/// How many members the object of a shutdown(2) has.
+fn shutdown_size(fd: Fd, how: How) -> usize
+    ensures { result ≡ size (of_shutdown fd.0 how) }
+{
+    match how {
+        How::Write => 2,
+        How::Read => 3,
+        How::Both => 3,
+    }
+}
+
 /// How many members the object of a call has.
 fn call_size(call: &Call) -> usize
     ensures { result ≡ size (call_data call.now) }
@@ -200,10 +205,14 @@ fn call_size(call: &Call) -> usize
     match call {
         Call::Fork | Call::Exec | Call::Exit => 1,
         Call::Pipe { .. } | Call::SocketPair { .. } | Call::Plain { .. } => 2,
-        Call::EpollCreate { .. } | Call::Shutdown { .. } | Call::GetTime { .. } => 2,
+        Call::EpollCreate { .. } | Call::GetTime { .. } => 2,
         Call::Dup { .. } | Call::Close { .. } => 2,
+        Call::TakeError { .. } | Call::SocketName { .. } => 2,
+        Call::Shutdown { fd, how } => shutdown_size(*fd, *how),
         Call::TimerFd { .. } | Call::Read { .. } | Call::Write { .. } | Call::Dup2 { .. } => 3,
+        Call::Socket { .. } | Call::Peek { .. } | Call::Listen { .. } | Call::Accept { .. } => 3,
         Call::EventFd { .. } | Call::EpollWait { .. } => 4,
+        Call::Bind { .. } | Call::Connect { .. } => 4,
         Call::SetTime { .. } => 5,
         Call::EpollCtl { .. } => 6,
     }

@@ -4,12 +4,13 @@ use Rattle.ep_base.specs.Errno.{errno_number}
 use Rattle.ep_base.specs.Limits.{Limits}
 use Rattle.ep_base.specs.declared.errno.Errno.{Errno}
 use Rattle.ep_base.specs.declared.answer.Answer.{Answer}
-use Rattle.ep_base.specs.declared.answer.Answer.TheVariants.{Done, Num, Two, Bytes, Events, Time, Parked, Still, Refused}
+use Rattle.ep_base.specs.declared.answer.Answer.TheVariants.{Done, Num, Two, Bytes, Events, Time, Parked, Still, Connecting, Failed, Named, Refused}
 use Rattle.ep_base.specs.declared.call.Event.{Event}
 use Rattle.ep_base.specs.declared.record.Record.{Record}
 use Rattle.ep_machine.specs.Effect.{first}
 use Rattle.ep_base.specs.declared.call.Call.TheVariants.{EpollCtl, EpollWait}
 use Rattle.ep_base.specs.declared.call.Event.TheVariants.{Call as CallOf, Resume, Tick}
+use Rattle.ep_machine.specs.Names.{space_number}
 use Rattle.ep_machine.specs.Settle.{settle}
 use Rattle.ep_machine.specs.State.{Change, State, opening, Waiter}
 use Rattle.ep_machine.specs.Tables.{same_number}
@@ -48,6 +49,10 @@ same_answer_self (Events xs) = same_list_self same_report (λ x. rw (same_nat x.
 same_answer_self (Time a b) = rw (same_nat a, same_nat b)
 same_answer_self Parked = refl
 same_answer_self Still = refl
+same_answer_self Connecting = refl
+same_answer_self (Failed e) = same_nat (errno_number e)
+same_answer_self (Named None) = refl
+same_answer_self (Named (Some name)) = rw (same_nat (space_number name.space), same_nat name.number)
 same_answer_self (Refused e) = same_nat (errno_number e)
 
 pub run_on-append : (limits : Limits) (o : Option State) (rs : List Record) (r : Record) → run_on limits o (rs ++ r ∷ []) ≡ go_on limits (run_on limits o rs) r

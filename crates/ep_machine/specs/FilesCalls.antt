@@ -1,10 +1,11 @@
 -- Calls on the tables alone: what refuses each, in order, its answer, and the files after it.
-use Rattle.std.specs.Prelude.{Bool, List, [], length, nat_le, not, ℕ, ℤ, ◌||◌, ◌∷◌}
+use Rattle.std.specs.Prelude.{Bool, List, [], length, nat_le, not, true, ℕ, ℤ, ◌||◌, ◌∷◌}
 use Rattle.ep_base.specs.Limits.{Limits}
 use Rattle.ep_base.specs.declared.answer.Answer.{Answer}
 use Rattle.ep_base.specs.declared.answer.Answer.TheVariants.{Done, Num}
 use Rattle.ep_base.specs.declared.call.Call.{Call}
-use Rattle.ep_base.specs.declared.call.Call.TheVariants.{Close, Dup, Dup2, EpollCreate, EventFd, Exec, Exit, Fork, Pipe as PipeCall, Plain, SocketPair, TimerFd}
+use Rattle.ep_base.specs.declared.call.Call.TheVariants.{Accept, Bind, Close, Connect, Dup, Dup2, EpollCreate, EventFd, Exec, Exit, Fork, Listen}
+use Rattle.ep_base.specs.declared.call.Call.TheVariants.{Pipe as PipeCall, Plain, Socket, SocketPair, TimerFd}
 use Rattle.ep_base.specs.declared.errno.Errno.{Errno}
 use Rattle.ep_base.specs.declared.errno.Errno.TheVariants.{Eagain, Ebadf, Ebusy, Einval, Emfile}
 use Rattle.ep_machine.specs.Files.{Files, named_by, names_nothing, numbers_of}
@@ -84,6 +85,10 @@ exec_of s p busy = record { refusals = (busy, Ebusy) ∷ []; answer = Done; afte
 abbrev pub exit_of : Files → ℕ → Bool → FilesCall
 exit_of s p busy = record { refusals = (busy, Ebusy) ∷ []; answer = Done; after = exit s p }
 
+-- Sockets that listen and connect are not there: their calls are refused.
+abbrev pub refused_of : Files → FilesCall
+refused_of s = record { refusals = (true, Einval) ∷ []; answer = Done; after = s }
+
 -- a call on the tables alone; any other does nothing here
 abbrev pub files_call : Limits → Files → ℕ → Bool → Call → FilesCall
 files_call limits s p busy (PipeCall cloexec) = pipe_of limits s p cloexec
@@ -98,4 +103,9 @@ files_call limits s p busy (Close fd) = close_of s p fd.0
 files_call limits s p busy Fork = fork_of limits s p
 files_call limits s p busy Exec = exec_of s p busy
 files_call limits s p busy Exit = exit_of s p busy
+files_call limits s p busy (Socket family cloexec) = refused_of s
+files_call limits s p busy (Bind fd name) = refused_of s
+files_call limits s p busy (Listen fd backlog) = refused_of s
+files_call limits s p busy (Connect fd name) = refused_of s
+files_call limits s p busy (Accept fd cloexec) = refused_of s
 files_call limits s p busy call = record { refusals = []; answer = Done; after = s }

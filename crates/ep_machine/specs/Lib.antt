@@ -4,6 +4,7 @@ pub mod Counts
 pub mod Effect
 pub mod Pipe
 pub mod Sockets
+pub mod Names
 pub mod Counters
 pub mod Timer
 pub mod Objects

@@ -2,17 +2,19 @@
 use Rattle.std.specs.Prelude.{Bool, List, None, Option, Some, [], false, length, not, true, ℕ, ◌∷◌}
 use Rattle.ep_base.specs.declared.answer.Answer.TheVariants.{Bytes, Done, Num}
 use Rattle.ep_base.specs.declared.call.Call.{Call}
-use Rattle.ep_base.specs.declared.call.Call.TheVariants.{GetTime, Read, SetTime, Shutdown, Write}
+use Rattle.ep_base.specs.declared.call.Call.TheVariants.{GetTime, Peek, Read, SetTime, Shutdown, SocketName, TakeError, Write}
 use Rattle.ep_base.specs.declared.errno.Errno.{Errno}
 use Rattle.ep_base.specs.declared.errno.Errno.TheVariants.{Einval, Enotsock}
 use Rattle.ep_base.specs.declared.ids.Fd.{Fd}
 use Rattle.ep_base.specs.declared.object.End.{End}
 use Rattle.ep_base.specs.declared.object.Raised.{Raised}
+use Rattle.ep_base.specs.declared.socket.How.{How}
 use Rattle.ep_machine.specs.Bits.{nothing}
 use Rattle.ep_machine.specs.Counters.{Counter, counter_present, counter_read, counter_read_refusals, counter_write, counter_write_refusals}
 use Rattle.ep_machine.specs.Effect.{Effect}
 use Rattle.ep_machine.specs.Pipe.{Pipe, pipe_close, pipe_present, pipe_read, pipe_read_refusals, pipe_write, pipe_write_refusals}
-use Rattle.ep_machine.specs.Sockets.{SocketPair, pair_close, pair_present, pair_read, pair_read_refusals, pair_shutdown, pair_write, pair_write_refusals}
+use Rattle.ep_machine.specs.Sockets.{SocketPair, pair_close, pair_name, pair_name_refusals, pair_peek, pair_present, pair_read, pair_read_refusals}
+use Rattle.ep_machine.specs.Sockets.{pair_shut_refusals, pair_shutdown, pair_take_error, pair_write, pair_write_refusals}
 use Rattle.ep_machine.specs.Timer.{Timer, timer_advance, timer_present, timer_read, timer_read_refusals, timer_set_refusals, timer_setting, timer_settime}
 
 pub data Object : Type 0 where
@@ -83,10 +85,35 @@ write (counter c) e bytes = effect_on counter (counter_write c bytes)
 write (timer t) e bytes = (Done, timer t, nothing)
 write instance e bytes = (Done, instance, nothing)
 
--- shutdown(2), timerfd_settime(2) and timerfd_gettime(2): what another kind of object does is never asked
-abbrev pub shutdown : Object → End → Effect Object
-shutdown (pair p) e = effect_on pair (pair_shutdown p e)
-shutdown x e = (Done, x, nothing)
+-- what reads, but takes no bytes
+abbrev pub peek : Object → End → ℕ → Effect Object
+peek (pair p) e n = effect_on pair (pair_peek p e n)
+peek x e n = (Done, x, nothing)
+
+-- The calls of sockets and of timers: what another kind of object does is never asked.
+abbrev pub shutdown : Object → End → How → Effect Object
+shutdown (pair p) e how = effect_on pair (pair_shutdown p e how)
+shutdown x e how = (Done, x, nothing)
+
+abbrev pub shutdown_refusals : Object → End → List (Bool × Errno)
+shutdown_refusals (pair p) e = pair_shut_refusals p e
+shutdown_refusals x e = []
+
+abbrev pub take_error : Object → End → Effect Object
+take_error (pair p) e = effect_on pair (pair_take_error p e)
+take_error x e = (Done, x, nothing)
+
+abbrev pub name_of : Object → End → Bool → Effect Object
+name_of (pair p) e of_peer = effect_on pair (pair_name p e of_peer)
+name_of x e of_peer = (Done, x, nothing)
+
+abbrev pub name_refusals : Object → End → Bool → List (Bool × Errno)
+name_refusals (pair p) e of_peer = pair_name_refusals p e of_peer
+name_refusals x e of_peer = []
+
+-- what only sockets answer
+abbrev pub of_socket : Object → List (Bool × Errno) → List (Bool × Errno)
+of_socket x refusals = (not (is_pair x), Enotsock) ∷ refusals
 
 abbrev pub settime : Object → Bool → ℕ → ℕ → ℕ → Effect Object
 settime (timer t) absolute value interval now = effect_on timer (timer_settime t absolute value interval now)
@@ -100,7 +127,10 @@ gettime x now = (Done, x, nothing)
 pub data ObjectCall : Type 0 where
   reads : ℕ → ObjectCall
   writes : List ℕ → ObjectCall
-  shuts_down : ObjectCall
+  peeks : ℕ → ObjectCall
+  shuts_down : How → ObjectCall
+  takes_error : ObjectCall
+  asks_name : Bool → ObjectCall
   sets_time : Bool → ℕ → ℕ → ObjectCall
   asks_time : ObjectCall
 
@@ -108,7 +138,10 @@ pub data ObjectCall : Type 0 where
 abbrev pub object_call : Call → Option (Fd × ObjectCall)
 object_call (Read fd n) = Some (fd, reads n)
 object_call (Write fd bytes) = Some (fd, writes bytes)
-object_call (Shutdown fd) = Some (fd, shuts_down)
+object_call (Peek fd n) = Some (fd, peeks n)
+object_call (Shutdown fd how) = Some (fd, shuts_down how)
+object_call (TakeError fd) = Some (fd, takes_error)
+object_call (SocketName fd of_peer) = Some (fd, asks_name of_peer)
 object_call (SetTime fd absolute value interval) = Some (fd, sets_time absolute value interval)
 object_call (GetTime fd) = Some (fd, asks_time)
 object_call call = None
@@ -117,7 +150,10 @@ object_call call = None
 abbrev pub object_refusals : Object → End → ℕ → ObjectCall → List (Bool × Errno)
 object_refusals x e now (reads n) = read_refusals x e n now
 object_refusals x e now (writes bytes) = write_refusals x e bytes
-object_refusals x e now shuts_down = (not (is_pair x), Enotsock) ∷ []
+object_refusals x e now (peeks n) = of_socket x (read_refusals x e n now)
+object_refusals x e now (shuts_down how) = of_socket x (shutdown_refusals x e)
+object_refusals x e now takes_error = of_socket x []
+object_refusals x e now (asks_name of_peer) = of_socket x (name_refusals x e of_peer)
 object_refusals x e now (sets_time absolute value interval) = (not (is_timer x), Einval) ∷ timer_set_refusals value interval
 object_refusals x e now asks_time = (not (is_timer x), Einval) ∷ []
 
@@ -125,7 +161,10 @@ object_refusals x e now asks_time = (not (is_timer x), Einval) ∷ []
 abbrev pub object_effect : Object → End → ℕ → ObjectCall → Effect Object
 object_effect x e now (reads n) = read x e n now
 object_effect x e now (writes bytes) = write x e bytes
-object_effect x e now shuts_down = shutdown x e
+object_effect x e now (peeks n) = peek x e n
+object_effect x e now (shuts_down how) = shutdown x e how
+object_effect x e now takes_error = take_error x e
+object_effect x e now (asks_name of_peer) = name_of x e of_peer
 object_effect x e now (sets_time absolute value interval) = settime x absolute value interval now
 object_effect x e now asks_time = gettime x now
 

@@ -11,7 +11,7 @@
 //! 5. `Tables`, `Watches`, `FilesCalls`, `Report`, `Waits`: what each call changes; of a call on the tables alone
 //!    its refusals and its answer, too.
 //! 6. `Deaths`, `Spread`, `Exclusive`, `Marks`, `Settle`: the end of each event, and whom it marks.
-//! 7. `Refusal`, `Step`, `Run`: the refusals of every call, one step, and which lists of records are runs.
+//! 7. `Refusal`, `Step`, `Names`, `Run`: the refusals of every call, one step, and which lists of records are runs.
 //!
 //! These are all files of `specs/`; `Lib` only loads them.
 #![tactic(auto)]

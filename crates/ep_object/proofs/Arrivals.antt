@@ -3,21 +3,25 @@ use Rattle.std.proofs.Common.{Bool, List, None, Option, Some, [], ℕ, ◌∷◌
 use Rattle.std.proofs.lemmas.Bool.{false≢true}
 use Rattle.std.specs.Prelude.{not}
 use Rattle.ep_base.specs.declared.errno.Errno.{Errno}
-use Rattle.ep_base.specs.declared.errno.Errno.TheVariants.{Einval, Enotsock}
+use Rattle.ep_base.specs.declared.errno.Errno.TheVariants.{Einval}
 use Rattle.ep_base.specs.declared.object.End.TheVariants.{First, Second}
 use Rattle.ep_base.specs.declared.object.End.{End}
 use Rattle.ep_base.specs.declared.object.Raised.{Raised}
+use Rattle.ep_base.specs.declared.socket.How.{How}
 use Rattle.ep_counters.specs.Law.{CounterReadLaw, CounterWriteLaw, NextTellsAdvance, TimerAdvanceLaw, TimerReadLaw, TimerSettimeLaw}
 use Rattle.ep_machine.specs.Bits.{IsCovered, at_end, nothing}
 use Rattle.ep_machine.specs.Counters.{counter_present, counter_read, counter_read_refusals, counter_write, counter_write_refusals}
 use Rattle.ep_machine.specs.Effect.{Effect, attempt, first, unless}
-use Rattle.ep_machine.specs.Objects.{Object, asks_time, counter, effect_on, gettime, instance, is_pair, is_timer, object_present, pair, pipe, plain, read, read_refusals, reads, sets_time, settime, shutdown, shuts_down, timer, write, write_refusals, writes}
+use Rattle.ep_machine.specs.Objects.{Object, asks_name, asks_time, counter, effect_on, gettime, instance, is_timer, name_of, name_refusals, object_present}
+use Rattle.ep_machine.specs.Objects.{of_socket, pair, peek, peeks, pipe, plain, read, read_refusals, reads, sets_time, settime, shutdown, shutdown_refusals}
+use Rattle.ep_machine.specs.Objects.{shuts_down, take_error, takes_error, timer, write, write_refusals, writes}
 use Rattle.ep_machine.specs.Pipe.{pipe_present, pipe_read, pipe_read_refusals, pipe_write, pipe_write_refusals}
-use Rattle.ep_machine.specs.Sockets.{pair_present, pair_read, pair_read_refusals, pair_write, pair_write_refusals}
+use Rattle.ep_machine.specs.Sockets.{pair_name, pair_name_refusals, pair_peek, pair_present, pair_read, pair_read_refusals, pair_shut_refusals, pair_shutdown}
+use Rattle.ep_machine.specs.Sockets.{pair_write, pair_write_refusals}
 use Rattle.ep_machine.specs.Timer.{timer_present, timer_read, timer_read_refusals, timer_set_refusals, timer_settime}
 use Rattle.ep_object.specs.Law.{AdvanceLaw, ApplyLaw, CloseLaw, is_first, object_has, present_at}
-use Rattle.ep_stream.proofs.Arrivals.{unchanged}
-use Rattle.ep_stream.specs.Law.{PairCloseLaw, PairReadLaw, PairShutdownLaw, PairWriteLaw, PipeCloseLaw, PipeReadLaw, PipeWriteLaw, RaisesArrivals}
+use Rattle.ep_stream.proofs.Arrivals.{attempted, unchanged}
+use Rattle.ep_stream.specs.Law.{PairCloseLaw, PairErrorLaw, PairPeekLaw, PairReadLaw, PairShutdownLaw, PairWriteLaw, PipeCloseLaw, PipeReadLaw, PipeWriteLaw, RaisesArrivals, pair_has}
 
 -- what an event leaves as it was raises enough
 stays : (now : ℕ) (x : Object) (raised : Raised) → RaisesArrivals object_has (present_at now) x x raised
@@ -57,9 +61,24 @@ write_law pipes pairs counters e bytes now (counter c) =
     within counter now c (counter_write c bytes) (first (counter_write_refusals c bytes)) (alone counter_present c made.1 made.2 (counters c bytes))
 write_law pipes pairs counters e bytes now x = stays now x nothing
 
-shutdown_law : PairShutdownLaw → (e : End) (now : ℕ) → CallLaw (λ x. (not (is_pair x), Enotsock) ∷ []) (λ x. shutdown x e) now
-shutdown_law pairs e now (pair p) = pairs p e
-shutdown_law pairs e now x = stays now x nothing
+-- what only sockets answer
+peek_law : PairPeekLaw → (e : End) (n now : ℕ) → CallLaw (λ x. of_socket x (read_refusals x e n now)) (λ x. peek x e n) now
+peek_law pairs e n now (pair p) = within pair now p (pair_peek p e n) (first (pair_read_refusals p e n)) (pairs p e n)
+peek_law pairs e n now x = stays now x nothing
+
+shutdown_law : PairShutdownLaw → (e : End) (how : How) (now : ℕ) → CallLaw (λ x. of_socket x (shutdown_refusals x e)) (λ x. shutdown x e how) now
+shutdown_law pairs e how now (pair p) =
+    within pair now p (pair_shutdown p e how) (first (pair_shut_refusals p e)) (attempted pair_has pair_present p (pair_shutdown p e how) (pair_shut_refusals p e) (pairs p e how))
+shutdown_law pairs e how now x = stays now x nothing
+
+error_law : PairErrorLaw → (e : End) (now : ℕ) → CallLaw (λ x. of_socket x []) (λ x. take_error x e) now
+error_law pairs e now (pair p) = pairs p e
+error_law pairs e now x = stays now x nothing
+
+name_law : (e : End) (of_peer : Bool) (now : ℕ) → CallLaw (λ x. of_socket x (name_refusals x e of_peer)) (λ x. name_of x e of_peer) now
+name_law e of_peer now (pair p) =
+    within pair now p (pair_name p e of_peer) (first (pair_name_refusals p e of_peer)) (attempted pair_has pair_present p (pair_name p e of_peer) (pair_name_refusals p e of_peer) (λ o before after. unchanged (pair_present p o) (at_end nothing o)))
+name_law e of_peer now x = stays now x nothing
 
 settime_law : TimerSettimeLaw → (absolute : Bool) (value interval now : ℕ) → CallLaw (λ x. (not (is_timer x), Einval) ∷ timer_set_refusals value interval) (λ x. settime x absolute value interval now) now
 settime_law timers absolute value interval now (timer t) =
@@ -77,8 +96,10 @@ pub record Kinds : Type 0 where
   pub pipe_read : PipeReadLaw
   pub pipe_write : PipeWriteLaw
   pub pair_read : PairReadLaw
+  pub pair_peek : PairPeekLaw
   pub pair_write : PairWriteLaw
   pub pair_shutdown : PairShutdownLaw
+  pub pair_error : PairErrorLaw
   pub pipe_close : PipeCloseLaw
   pub pair_close : PairCloseLaw
   pub counter_read : CounterReadLaw
@@ -91,7 +112,10 @@ pub record Kinds : Type 0 where
 pub apply_law : Kinds → ApplyLaw
 apply_law kinds x e now (reads n) = read_law kinds.pipe_read kinds.pair_read kinds.counter_read kinds.timer_read e n now x
 apply_law kinds x e now (writes bytes) = write_law kinds.pipe_write kinds.pair_write kinds.counter_write e bytes now x
-apply_law kinds x e now shuts_down = shutdown_law kinds.pair_shutdown e now x
+apply_law kinds x e now (peeks n) = peek_law kinds.pair_peek e n now x
+apply_law kinds x e now (shuts_down how) = shutdown_law kinds.pair_shutdown e how now x
+apply_law kinds x e now takes_error = error_law kinds.pair_error e now x
+apply_law kinds x e now (asks_name of_peer) = name_law e of_peer now x
 apply_law kinds x e now (sets_time absolute value interval) = settime_law kinds.timer_settime absolute value interval now x
 apply_law kinds x e now asks_time = gettime_law now x
 

@@ -5,4 +5,8 @@ pub mod KindLemmas
 mod Laws
 mod NeededLemmas
 pub mod OwnEndLemmas
+mod PairEndLemmas
+pub mod RealLemmas
+pub mod StayLemmas
 pub mod TimerLemmas
+mod WrapLemmas

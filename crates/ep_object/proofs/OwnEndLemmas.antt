@@ -1,53 +1,28 @@
 -- A bit ends only at the end of an object on which a call is made.
-use Rattle.std.proofs.Common.{◌≡◌, ◌≢◌, ◌≤◌, ◌<◌, ◌+◌, ◌-◌, ◌/◌, ◌==◌, ◌&&◌, ◌||◌, ◌++◌, ◌∙◌, ℕ, Bool, true, false, List, [], ◌∷◌, None, Option, Some, ap, arith, drop, inl, inr, length, nat_lt, if◌then◌else◌, not, refl}
-use Rattle.std.specs.Prelude.{bit_or, nat_le}
-use Rattle.std.specs.Int.{bit_at}
+use Rattle.std.proofs.Common.{◌≡◌, ◌≢◌, ◌≤◌, ◌<◌, ◌+◌, ◌-◌, ◌/◌, ◌==◌, ◌++◌, ◌∙◌, ℕ, Bool, true, false, List, [], ◌∷◌, None, Option, Some, ap, arith, length, nat_lt, if◌then◌else◌, not, refl}
+use Rattle.std.specs.Prelude.{nat_le}
 use Rattle.std.proofs.lemmas.Bool.{false≢true}
 use Rattle.std.proofs.lemmas.Bool.Decides.{nat_tests}
 use Rattle.std.proofs.lemmas.List.{length-drop}
 use Rattle.std.proofs.lemmas.Nat.{le-div}
 use Rattle.std.proofs.Math.Nat.{div-mul-le_self}
-use Rattle.std.proofs.Math.Bool.{or-true}
 use Rattle.ep_base.specs.declared.errno.Errno.{Errno}
 use Rattle.ep_base.specs.declared.object.End.{End}
 use Rattle.ep_base.specs.declared.object.End.TheVariants.{First, Second}
-use Rattle.ep_machine.specs.Bits.{ERR, HUP, IN, OUT, RDHUP, when}
+use Rattle.ep_base.specs.declared.socket.How.{How}
+use Rattle.ep_machine.specs.Bits.{ERR, HUP, IN, OUT}
 use Rattle.ep_machine.specs.Effect.{Effect, attempt, first, unless}
 use Rattle.ep_machine.specs.Lists.{is_empty}
-use Rattle.ep_machine.specs.Objects.{Object, ObjectCall, asks_time, close_end, gettime, instance, object_effect, object_present, object_refusals, pair, pipe, plain, read, read_refusals, reads, sets_time, settime, shutdown, shuts_down, timer, write, write_refusals, writes}
+use Rattle.ep_machine.specs.Objects.{Object, ObjectCall, asks_name, asks_time, close_end, gettime, instance, name_of, object_effect, object_present, object_refusals, pair}
+use Rattle.ep_machine.specs.Objects.{peek, peeks, pipe, plain, read, read_refusals, reads, sets_time, settime, shutdown, shuts_down, take_error, takes_error, timer}
+use Rattle.ep_machine.specs.Objects.{write, write_refusals, writes}
 use Rattle.ep_machine.specs.Pipe.{Pipe, pipe_present, pipe_room, pipe_taken}
-use Rattle.ep_machine.specs.Sockets.{Socket, is_over, socket_present}
 use Rattle.ep_machine.specs.Timer.{Timer, expirations_from, unread}
-use Rattle.ep_object.proofs.BitLemmas.{Covers, covers_self, either_bit, first_bit, from_bits, last_bit, no_bit}
+use Rattle.ep_object.proofs.BitLemmas.{covers_self, from_bits}
+use Rattle.ep_object.proofs.PairEndLemmas.{close_stays as pair_closes, failed_stays as pair_fails, peek_stays as pair_peeks, read_stays as pair_reads}
+use Rattle.ep_object.proofs.PairEndLemmas.{shut_stays as pair_shuts, write_stays as pair_writes}
+use Rattle.ep_object.proofs.StayLemmas.{Stay, or_stays, when_stays}
 use Rattle.ep_object.specs.Law.{CallEndsHereOnly, ClockEndsNothing, CloseEndsNothing, object_has}
-
--- each bit of the old ones is among the new
-abbrev pub Stay : ℕ → ℕ → Type 0
-Stay new old = Covers new old 0
-
-pub when_stays : (new old : Bool) (n : ℕ) → (old ≡ true → new ≡ true) → Stay (when new n) (when old n)
-when_stays new true n h i at = inl (ap (λ (b : Bool). bit_at (when b n) i) (h refl) ∙ at)
-when_stays new false n h i at = absurd (no_bit i at)
-
-or_stays : (a b c d : ℕ) → Stay a c → Stay b d → Stay (bit_or a b) (bit_or c d)
-or_stays a b c d one two i at = elim (either_bit c d i at) [
-  | inl here ↦ elim (one i here) [ inl stays ↦ inl (first_bit a b i stays) | inr none ↦ inr none ]
-  | inr there ↦ elim (two i there) [ inl stays ↦ inl (last_bit a b i stays) | inr none ↦ inr none ]
-]
-
--- Bools.
-or_first : (a b c : Bool) → (a ≡ true → c ≡ true) → (a || b) ≡ true → (c || b) ≡ true
-or_first true b c h e = ap (λ (x : Bool). x || b) (h refl)
-or_first false b true h e = refl
-or_first false b false h e = e
-
-or_last : (a b c : Bool) → (b ≡ true → c ≡ true) → (a || b) ≡ true → (a || c) ≡ true
-or_last true b c h e = refl
-or_last false b c h e = h e
-
-and_last : (a b c : Bool) → (b ≡ true → c ≡ true) → (a && b) ≡ true → (a && c) ≡ true
-and_last true b c h e = h e
-and_last false b c h e = e
 
 -- Queues.
 some_more : (xs ys : List ℕ) → not (is_empty xs) ≡ true → not (is_empty (xs ++ ys)) ≡ true
@@ -56,9 +31,6 @@ some_more (x ∷ xs) ys h = refl
 
 room_left : (capacity n k : ℕ) → nat_le 4096 (capacity - k) ≡ true → nat_le 4096 (capacity - (k - n)) ≡ true
 room_left capacity n k h = grind (arith, nat_tests, h)
-
-fits_still : (capacity n k : ℕ) → nat_lt k capacity ≡ true → nat_lt (k - n) capacity ≡ true
-fits_still capacity n k h = grind (arith, nat_tests, h)
 
 -- Pipes.
 pipe_reader : (p : Pipe) (n : ℕ) → Stay (pipe_present (pipe_taken p n) Second) (pipe_present p Second)
@@ -69,55 +41,6 @@ pipe_reader p n =
 
 pipe_writer : (p : Pipe) (more : List ℕ) → Stay (pipe_present (record p { bytes = p.bytes ++ more }) First) (pipe_present p First)
 pipe_writer p more = or_stays _ _ _ _ (when_stays _ _ IN (some_more p.bytes more)) (covers_self _ 0)
-
--- What an end of a pair shows, as the two ends become others.
-abbrev has_in : Socket → Socket → Bool
-has_in mine other = not (is_empty mine.queue) || is_over other
-
-abbrev has_hup : Socket → Socket → Bool
-has_hup mine other = other.is_closed || mine.is_shut && other.is_shut
-
-abbrev has_out : ℕ → Socket → Bool
-has_out capacity other = other.is_closed || nat_lt (length other.queue) capacity
-
-socket_stays : (capacity : ℕ) (mine other left right : Socket)
-    → (has_in mine other ≡ true → has_in left right ≡ true)
-    → (is_over other ≡ true → is_over right ≡ true)
-    → (has_hup mine other ≡ true → has_hup left right ≡ true)
-    → (has_out capacity other ≡ true → has_out capacity right ≡ true)
-    → Stay (socket_present capacity left right) (socket_present capacity mine other)
-socket_stays capacity mine other left right in_stays rdhup_stays hup_stays out_stays =
-    or_stays _ _ _ _ (when_stays (has_in left right) (has_in mine other) IN in_stays)
-    (or_stays _ _ _ _ (when_stays (is_over right) (is_over other) RDHUP rdhup_stays)
-    (or_stays _ _ _ _ (when_stays (has_hup left right) (has_hup mine other) HUP hup_stays)
-    (or_stays _ 0 _ 0 (when_stays (has_out capacity right) (has_out capacity other) OUT out_stays) (covers_self 0 0))))
-
-module _ (capacity : ℕ) (mine other : Socket) where
-  abbrev shown : ℕ
-  shown = socket_present capacity mine other
-
-  peer_reads : (n : ℕ) → Stay (socket_present capacity mine (record other { queue = drop n other.queue })) shown
-  peer_reads n =
-      let room : nat_lt (length other.queue) capacity ≡ true → nat_lt (length (drop n other.queue)) capacity ≡ true =
-      λ h. ap (λ (k : ℕ). nat_lt k capacity) (length-drop n other.queue) ∙ fits_still capacity n (length other.queue) h in
-      socket_stays capacity mine other mine (record other { queue = drop n other.queue }) (λ h. h) (λ h. h) (λ h. h) (or_last other.is_closed _ _ room)
-
-  peer_writes : (more : List ℕ) → Stay (socket_present capacity (record mine { queue = mine.queue ++ more }) other) shown
-  peer_writes more =
-      socket_stays capacity mine other (record mine { queue = mine.queue ++ more }) other (or_first _ (is_over other) _ (some_more mine.queue more)) (λ h. h) (λ h. h) (λ h. h)
-
-  peer_shuts : Stay (socket_present capacity mine (record other { is_shut = true })) shown
-  peer_shuts =
-      socket_stays capacity mine other mine (record other { is_shut = true })
-      (or_last (not (is_empty mine.queue)) _ _ (λ h. refl))
-      (λ h. refl)
-      (or_last other.is_closed _ _ (and_last mine.is_shut _ _ (λ h. refl)))
-      (λ h. h)
-
-  peer_closes : Stay (socket_present capacity mine (record other { is_closed = true })) shown
-  peer_closes =
-      let over : (other.is_shut || true) ≡ true = or-true other.is_shut in
-      socket_stays capacity mine other mine (record other { is_closed = true }) (or_last (not (is_empty mine.queue)) _ _ (λ h. over)) (λ h. over) (λ h. refl) (λ h. refl)
 
 -- Calls.
 -- object x, of which a call makes y, shows at this end what it showed
@@ -139,28 +62,31 @@ read_stays : (x : Object) (e o : End) (n now : ℕ) → e ≢ o → object_has x
 read_stays (pipe p) First First n now ne h k = absurd (ne refl)
 read_stays (pipe p) First Second n now ne h k = unless_stays _ (pipe p) (read (pipe p) First n now) Second now (pipe_reader p n)
 read_stays (pipe p) Second o n now ne h k = covers_self _ 0
-read_stays (pair p) First First n now ne h k = absurd (ne refl)
-read_stays (pair p) First Second n now ne h k = unless_stays _ (pair p) (read (pair p) First n now) Second now (peer_reads p.capacity p.second_end p.first_end n)
-read_stays (pair p) Second First n now ne h k = unless_stays _ (pair p) (read (pair p) Second n now) First now (peer_reads p.capacity p.first_end p.second_end n)
-read_stays (pair p) Second Second n now ne h k = absurd (ne refl)
+read_stays (pair p) e o n now ne h k = unless_stays (first (read_refusals (pair p) e n now)) (pair p) (read (pair p) e n now) o now (pair_reads p e o n ne)
 read_stays x e o n now ne h k = one_end e o ne h k
 
 write_stays : (x : Object) (e o : End) (bytes : List ℕ) (now : ℕ) → e ≢ o → object_has x e ≡ true → object_has x o ≡ true → Shows x (attempt (write_refusals x e bytes) x (write x e bytes)).1 o now now
 write_stays (pipe p) First o bytes now ne h k = covers_self _ 0
 write_stays (pipe p) Second First bytes now ne h k = unless_stays (first (write_refusals (pipe p) Second bytes)) (pipe p) (write (pipe p) Second bytes) First now (pipe_writer p _)
 write_stays (pipe p) Second Second bytes now ne h k = absurd (ne refl)
-write_stays (pair p) First First bytes now ne h k = absurd (ne refl)
-write_stays (pair p) First Second bytes now ne h k = unless_stays (first (write_refusals (pair p) First bytes)) (pair p) (write (pair p) First bytes) Second now (peer_writes p.capacity p.second_end p.first_end _)
-write_stays (pair p) Second First bytes now ne h k = unless_stays (first (write_refusals (pair p) Second bytes)) (pair p) (write (pair p) Second bytes) First now (peer_writes p.capacity p.first_end p.second_end _)
-write_stays (pair p) Second Second bytes now ne h k = absurd (ne refl)
+write_stays (pair p) e o bytes now ne h k = unless_stays (first (write_refusals (pair p) e bytes)) (pair p) (write (pair p) e bytes) o now (pair_writes p e o bytes ne)
 write_stays x e o bytes now ne h k = one_end e o ne h k
 
-shutdown_stays : (x : Object) (e o : End) (now : ℕ) → e ≢ o → Shows x (shutdown x e).1 o now now
-shutdown_stays (pair p) First First now ne = absurd (ne refl)
-shutdown_stays (pair p) First Second now ne = peer_shuts p.capacity p.second_end p.first_end
-shutdown_stays (pair p) Second First now ne = peer_shuts p.capacity p.first_end p.second_end
-shutdown_stays (pair p) Second Second now ne = absurd (ne refl)
-shutdown_stays x e o now ne = covers_self _ 0
+peek_stays : (x : Object) (e o : End) (n now : ℕ) → e ≢ o → Shows x (peek x e n).1 o now now
+peek_stays (pair p) e o n now ne = pair_peeks p e o n ne
+peek_stays x e o n now ne = covers_self _ 0
+
+shutdown_stays : (x : Object) (e o : End) (how : How) (now : ℕ) → e ≢ o → Shows x (shutdown x e how).1 o now now
+shutdown_stays (pair p) e o how now ne = pair_shuts p e o how ne
+shutdown_stays x e o how now ne = covers_self _ 0
+
+error_stays : (x : Object) (e o : End) (now : ℕ) → e ≢ o → Shows x (take_error x e).1 o now now
+error_stays (pair p) e o now ne = pair_fails p e o ne
+error_stays x e o now ne = covers_self _ 0
+
+name_stays : (x : Object) (e o : End) (of_peer : Bool) (now : ℕ) → Shows x (name_of x e of_peer).1 o now now
+name_stays (pair p) e o of_peer now = covers_self _ 0
+name_stays x e o of_peer now = covers_self _ 0
 
 settime_stays : (x : Object) (e o : End) (absolute : Bool) (value interval now : ℕ) → e ≢ o → object_has x e ≡ true → object_has x o ≡ true → Shows x (settime x absolute value interval now).1 o now now
 settime_stays (timer t) e o absolute value interval now ne h k = one_end e o ne h k
@@ -174,7 +100,10 @@ gettime_stays x o now = covers_self _ 0
 pub call_stays : (x : Object) (e o : End) (now : ℕ) (asked : ObjectCall) → e ≢ o → object_has x e ≡ true → object_has x o ≡ true → Shows x (attempt (object_refusals x e now asked) x (object_effect x e now asked)).1 o now now
 call_stays x e o now (reads n) ne h k = read_stays x e o n now ne h k
 call_stays x e o now (writes bytes) ne h k = write_stays x e o bytes now ne h k
-call_stays x e o now shuts_down ne h k = unless_stays (first (object_refusals x e now shuts_down)) x (shutdown x e) o now (shutdown_stays x e o now ne)
+call_stays x e o now (peeks n) ne h k = unless_stays (first (object_refusals x e now (peeks n))) x (peek x e n) o now (peek_stays x e o n now ne)
+call_stays x e o now (shuts_down how) ne h k = unless_stays (first (object_refusals x e now (shuts_down how))) x (shutdown x e how) o now (shutdown_stays x e o how now ne)
+call_stays x e o now takes_error ne h k = unless_stays (first (object_refusals x e now takes_error)) x (take_error x e) o now (error_stays x e o now ne)
+call_stays x e o now (asks_name of_peer) ne h k = unless_stays (first (object_refusals x e now (asks_name of_peer))) x (name_of x e of_peer) o now (name_stays x e o of_peer now)
 call_stays x e o now (sets_time absolute value interval) ne h k =
     unless_stays (first (object_refusals x e now (sets_time absolute value interval))) x (settime x absolute value interval now) o now (settime_stays x e o absolute value interval now ne h k)
 call_stays x e o now asks_time ne h k = unless_stays (first (object_refusals x e now asks_time)) x (gettime x now) o now (gettime_stays x o now)
@@ -183,8 +112,7 @@ call_stays x e o now asks_time ne h k = unless_stays (first (object_refusals x e
 pub close_stays : (x : Object) (e o : End) (now : ℕ) → Shows x (close_end x e).0 o now now
 close_stays (pipe p) First Second now = or_stays _ _ _ _ (covers_self _ 0) (or_stays _ _ _ _ (when_stays true (not p.has_reader) ERR (λ h. refl)) (covers_self _ 0))
 close_stays (pipe p) Second First now = or_stays _ _ _ _ (covers_self _ 0) (or_stays _ _ _ _ (when_stays true (not p.has_writer) HUP (λ h. refl)) (covers_self _ 0))
-close_stays (pair p) First Second now = peer_closes p.capacity p.second_end p.first_end
-close_stays (pair p) Second First now = peer_closes p.capacity p.first_end p.second_end
+close_stays (pair p) e o now = pair_closes p e o
 close_stays x e o now = covers_self _ 0
 
 -- The clock.

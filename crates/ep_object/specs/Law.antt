@@ -91,7 +91,7 @@ pub record ObjectLaws : Type 0 where
   pub still_raises_nothing : (x : Object) (now : ℕ) → advance x now now ≡ 0
   -- a call that isn't refused gives no more bytes than it asks for, and above 16 no more than wait
   pub gives_few : (x : Object) (e : End) (now : ℕ) (asked : ObjectCall) → first (object_refusals x e now asked) ≡ None
-      → GivesAtMost (min (asked_of asked) (max 16 (object_waiting x e))) (object_effect x e now asked).0
+      → GivesAtMost (min (asked_of asked) (max 16 (object_waiting x e asked))) (object_effect x e now asked).0
   -- and it isn't refused if it asks for bytes and some wait
   pub waiting_is_given : (x : Object) (e : End) (now : ℕ) (asked : ObjectCall)
-      → 0 < min (asked_of asked) (object_waiting x e) → first (object_refusals x e now asked) ≡ None
+      → 0 < min (asked_of asked) (object_waiting x e asked) → first (object_refusals x e now asked) ≡ None

@@ -1,16 +1,17 @@
 //! Objects of each kind.
-ghost use Rattle.std.specs.Prelude.{◌≡◌, ◌≤◌, ◌∷◌, [], min, not, IfOk, IsOk, OnErr};
+ghost use Rattle.std.specs.Prelude.{◌≡◌, ◌≤◌, ◌∷◌, [], ℕ, Bool, min, not, IfOk, IsOk, OnErr};
 ghost use Rattle.ep_machine.specs.Bits.{raises};
 ghost use Rattle.ep_machine.specs.Effect.{attempt};
-ghost use Rattle.ep_machine.specs.Objects.{advance, close_end, counter, gettime, instance, is_instance, is_pair, is_plain, is_timer, object_effect, object_present, object_refusals, pair, pipe, plain, read, read_refusals, settime, shutdown, timer, write, write_refusals};
+ghost use Rattle.ep_machine.specs.Objects.{advance, close_end, counter, gettime, instance, is_instance, is_plain, is_timer, name_of, name_refusals, object_effect, object_present, object_refusals, of_socket, pair, peek, peeks, pipe, plain, read, read_refusals, reads, settime, shutdown, shutdown_refusals, take_error, timer, write, write_refusals};
 ghost use Rattle.ep_machine.specs.Pipe.{new_pipe};
 ghost use Rattle.ep_machine.specs.Sockets.{new_pair};
 ghost use Rattle.ep_machine.specs.Timer.{new_timer, timer_set_refusals};
+ghost use Rattle.ep_object.specs.Asked.{IsOfSocket};
 ghost use Rattle.ep_object.specs.Memory.{asked_of, object_waiting};
 ghost use Rattle.ep_object.specs.Next.{IsNextMoment};
 
 use crate::object_call::ObjectCall;
-use ep_base::{Answer, Buffer, Bytes, Call, Errno, Mask, Moment, Span};
+use ep_base::{Answer, Buffer, Bytes, Call, Errno, How, Mask, Moment, Span};
 use ep_counters::{EventFd, Timer};
 use ep_stream::{End, Pipe, Raised, SockPair};
 use std::alloc::{AllocError, Global};
@@ -137,12 +138,13 @@ impl Object {
         }
     }
 
-    /// How many bytes a read at this end could give: those that wait at the first end of a pipe or at
-    /// this end of a socket pair, else 0.
-    pub fn waiting(&self, end: End) -> usize
-        ensures { result ≡ object_waiting self.now end }
+    /// How many of the bytes that wait at this end a call could give: those at the first end of a pipe, but for a
+    /// peek, and those at this end of a socket pair, else 0.
+    pub fn waiting(&self, end: End, call: &ObjectCall<'_>) -> usize
+        ensures { result ≡ object_waiting self.now end call.now }
     {
         match &self.kind {
+            Kind::Pipe(_) if call.is_peek() => 0,
             Kind::Pipe(pipe) => pipe.waiting(end),
             Kind::Pair(pair) => pair.waiting(end),
             Kind::Plain(_) | Kind::Counter(_) | Kind::Timer(_) | Kind::Instance => 0,
@@ -191,12 +193,13 @@ impl Object {
     ///
     /// - read(2) and write(2): EINVAL of an instance, and for a write of a timer; else as the kind's
     ///   own type says. A plain file gives no bytes and takes all.
-    /// - shutdown(2) with SHUT_WR answers `Done`: ENOTSOCK of anything but a socket pair.
+    /// - recv(2) with MSG_PEEK, shutdown(2), SO_ERROR and names: ENOTSOCK of anything but a socket pair, else as its
+    ///   own type says. A name is `None`.
     /// - timerfd_settime(2) and timerfd_gettime(2) answer the setting that the timer had: EINVAL of
     ///   anything but a timer, and for a `value` or `interval` above `LAST_MOMENT`.
     ///
-    /// An `AllocError` leaves the object, and comes only from a read of a pipe or a socket pair of more
-    /// than 16 bytes where more than 16 wait.
+    /// An `AllocError` leaves the object, and comes only from a read of a pipe, or a read or a peek of a socket pair,
+    /// of more than 16 bytes where more than 16 wait.
     pub fn apply(
         &mut self,
         end: End,
@@ -206,12 +209,15 @@ impl Object {
         ensures ok { IfOk result (λ r. (r.0, self.new, r.1) ≡
             attempt (object_refusals self.old end now call.now) self.old (object_effect self.old end now call.now)) }
         ensures err { OnErr result (self.new ≡ self.old) }
-        ensures inline { min (asked_of call.now) (object_waiting self.old end) ≤ 16 → IsOk result }
+        ensures inline { min (asked_of call.now) (object_waiting self.old end call.now) ≤ 16 → IsOk result }
     {
         match *call.call {
             Call::Read { n, .. } => self.read(end, now, n),
             Call::Write { ref bytes, .. } => Ok(self.write(end, bytes)),
-            Call::Shutdown { .. } => Ok(self.shutdown(end)),
+            Call::Peek { .. }
+            | Call::Shutdown { .. }
+            | Call::TakeError { .. }
+            | Call::SocketName { .. } => self.apply_to_socket(end, call),
             Call::SetTime {
                 absolute,
                 value,
@@ -228,7 +234,7 @@ impl Object {
         ensures ok { IfOk result (λ r. (r.0, self.new, r.1) ≡
             attempt (read_refusals self.old end n now) self.old (read self.old end n now)) }
         ensures err { OnErr result (self.new ≡ self.old) }
-        ensures inline { min n (object_waiting self.old end) ≤ 16 → IsOk result }
+        ensures inline { min n (object_waiting self.old end (reads n)) ≤ 16 → IsOk result }
     {
         match &mut self.kind {
             Kind::Plain(alloc) => Ok((Answer::Bytes(Bytes::empty(*alloc)), NOTHING)),
@@ -254,13 +260,70 @@ impl Object {
         }
     }
 
-    /// shutdown(2) with SHUT_WR of this end.
-    fn shutdown(&mut self, end: End) -> (Answer, Raised)
-        ensures { (result.0, self.new, result.1) ≡
-            attempt ((not (is_pair self.old), Errno.Enotsock) ∷ []) self.old (shutdown self.old end) }
+    /// A call that only sockets answer. A call of its own would cost reads and writes more than its code does.
+    #[inline(always)]
+    fn apply_to_socket(
+        &mut self,
+        end: End,
+        call: &ObjectCall<'_>,
+    ) -> Result<(Answer, Raised), AllocError>
+        requires { IsOfSocket call.now }
+        ensures ok { IfOk result (λ r. (now : ℕ) → (r.0, self.new, r.1) ≡
+            attempt (object_refusals self.old end now call.now) self.old (object_effect self.old end now call.now)) }
+        ensures err { OnErr result (self.new ≡ self.old) }
+        ensures inline { min (asked_of call.now) (object_waiting self.old end call.now) ≤ 16 → IsOk result }
+    {
+        match *call.call {
+            Call::Peek { n, .. } => self.peek(end, n),
+            Call::Shutdown { how, .. } => Ok(self.shutdown(end, how)),
+            Call::TakeError { .. } => Ok(self.take_error(end)),
+            Call::SocketName { .. } => Ok(self.name()),
+            _ => unreachable!(),
+        }
+    }
+
+    /// recv(2) with MSG_PEEK of at most `n` bytes at this end.
+    fn peek(&mut self, end: End, n: u32) -> Result<(Answer, Raised), AllocError>
+        ensures ok { IfOk result (λ r. (now : ℕ) → (r.0, self.new, r.1) ≡
+            attempt (of_socket self.old (read_refusals self.old end n now)) self.old (peek self.old end n)) }
+        ensures err { OnErr result (self.new ≡ self.old) }
+        ensures inline { min n (object_waiting self.old end (peeks n)) ≤ 16 → IsOk result }
     {
         match &mut self.kind {
-            Kind::Pair(pair) => (Answer::Done, pair.shutdown(end)),
+            Kind::Pair(pair) => pair.peek(end, n),
+            _ => Ok(refused(Errno::Enotsock)),
+        }
+    }
+
+    /// shutdown(2) of what `how` names at this end.
+    fn shutdown(&mut self, end: End, how: How) -> (Answer, Raised)
+        ensures { (result.0, self.new, result.1) ≡
+            attempt (of_socket self.old (shutdown_refusals self.old end)) self.old (shutdown self.old end how) }
+    {
+        match &mut self.kind {
+            Kind::Pair(pair) => pair.shutdown(end, how),
+            _ => refused(Errno::Enotsock),
+        }
+    }
+
+    /// getsockopt(2) with SO_ERROR at this end.
+    fn take_error(&mut self, end: End) -> (Answer, Raised)
+        ensures { (result.0, self.new, result.1) ≡
+            attempt (of_socket self.old []) self.old (take_error self.old end) }
+    {
+        match &mut self.kind {
+            Kind::Pair(pair) => (pair.take_error(end), NOTHING),
+            _ => refused(Errno::Enotsock),
+        }
+    }
+
+    /// getsockname(2) and getpeername(2) at either end.
+    fn name(&self) -> (Answer, Raised)
+        ensures { (end : End) (of_peer : Bool) → (result.0, self.now, result.1) ≡
+            attempt (of_socket self.now (name_refusals self.now end of_peer)) self.now (name_of self.now end of_peer) }
+    {
+        match &self.kind {
+            Kind::Pair(pair) => (Answer::Named(pair.name()), NOTHING),
             _ => refused(Errno::Enotsock),
         }
     }

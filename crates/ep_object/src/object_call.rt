@@ -1,13 +1,14 @@
 //! What a call asks of an object.
 ghost use Rattle.std.specs.Prelude.{◌≡◌};
 ghost use Rattle.ep_machine.specs.Objects.{object_call};
-ghost use Rattle.ep_object.specs.Memory.{asked_of};
+ghost use Rattle.ep_object.specs.Memory.{asked_of, is_peek};
 
 use ep_base::{Call, Fd};
 use std::marker::Model;
 
-/// What a call asks of the object that its descriptor names: a read, a write, a shutdown, or to set a
-/// timer or to ask it. It borrows the call, so taking one apart copies nothing.
+/// What a call asks of the object that its descriptor names: a read, a write, what only sockets answer (a peek, a
+/// shutdown, the error that waits, a name), or to set a timer or to ask it. It borrows the call, so taking one apart
+/// copies nothing.
 #[derive(Drop)]
 pub struct ObjectCall<'a> {
     pub(crate) call: &'a Call,
@@ -36,7 +37,10 @@ impl<'a> ObjectCall<'a> {
         let fd = match *call {
             Call::Read { fd, .. }
             | Call::Write { fd, .. }
-            | Call::Shutdown { fd }
+            | Call::Peek { fd, .. }
+            | Call::Shutdown { fd, .. }
+            | Call::TakeError { fd }
+            | Call::SocketName { fd, .. }
             | Call::SetTime { fd, .. }
             | Call::GetTime { fd } => fd,
             _ => return None,
@@ -44,13 +48,21 @@ impl<'a> ObjectCall<'a> {
         Some((fd, ObjectCall { call }))
     }
 
-    /// How many bytes it asks for: those of a read, else 0.
+    /// How many bytes it asks for: those of a read or a peek, else 0.
     pub fn most(&self) -> u32
         ensures { result ≡ asked_of self.now }
     {
         match *self.call {
             Call::Read { n, .. } => n,
+            Call::Peek { n, .. } => n,
             _ => 0,
         }
+    }
+
+    /// Whether it is a peek, which only sockets answer.
+    pub(crate) fn is_peek(&self) -> bool
+        ensures { result ≡ is_peek self.now }
+    {
+        matches!(self.call, Call::Peek { .. })
     }
 }

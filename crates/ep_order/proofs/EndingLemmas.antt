@@ -43,7 +43,7 @@ use Rattle.ep_view.proofs.FreshLemmas.{fresh_arrived}
 use Rattle.ep_order.specs.Event.{IsAltered, end_of}
 use Rattle.ep_order.specs.Ending.{IsUntouched, UntouchedStayReportable, is_called}
 use Rattle.ep_order.proofs.OriginLemmas.{Origin, origins}
-use Rattle.ep_object.proofs.OwnEndLemmas.{Stay, when_stays}
+use Rattle.ep_object.proofs.StayLemmas.{Stay, when_stays}
 use Rattle.ep_order.proofs.PresentLemmas.{Goes, Holds, change_goes, holds_deaths, holds_then}
 use Rattle.ep_order.proofs.StepLemmas.{stood}
 

@@ -1,5 +1,5 @@
 -- The record that a slot is.
-use Rattle.std.specs.Prelude.{Bool, List, None, Option, Some, [], get_or, length, pos, replicate, take, ◌+◌, ◌<◌, ◌≤◌, ◌++◌, ◌==◌, ◌∷◌, ℕ, ℤ}
+use Rattle.std.specs.Prelude.{Bool, List, None, Option, Some, [], get_or, if◌then◌else◌, length, pos, replicate, take, ◌+◌, ◌<◌, ◌≤◌, ◌++◌, ◌==◌, ◌∷◌, ℕ, ℤ}
 use Rattle.std.specs.Int.{cast_signed, to_le_bytes, w64}
 use Rattle.ep_base.specs.declared.answer.Answer.{Answer}
 use Rattle.ep_base.specs.declared.answer.Answer.TheVariants as answers
@@ -11,6 +11,13 @@ use Rattle.ep_base.specs.declared.call.Event.TheVariants as events
 use Rattle.ep_base.specs.declared.ids.CallerId.{CallerId}
 use Rattle.ep_base.specs.declared.ids.Fd.{Fd}
 use Rattle.ep_base.specs.declared.record.Record.{Record}
+use Rattle.ep_base.specs.declared.socket.Family.{Family}
+use Rattle.ep_base.specs.declared.socket.Family.TheVariants as families
+use Rattle.ep_base.specs.declared.socket.How.{How}
+use Rattle.ep_base.specs.declared.socket.How.TheVariants as hows
+use Rattle.ep_base.specs.declared.socket.Name.{Name}
+use Rattle.ep_base.specs.declared.socket.Space.{Space}
+use Rattle.ep_base.specs.declared.socket.Space.TheVariants as spaces
 use Rattle.ep_records.specs.Lists.{Lists, blank, stretch}
 use Rattle.ep_records.specs.declared.slot.Kind.{Kind}
 use Rattle.ep_records.specs.declared.slot.Kind.TheVariants as kinds
@@ -37,11 +44,25 @@ first_bytes count x y = take count (to_le_bytes w64 x ++ to_le_bytes w64 y)
 abbrev pub is_set : ℕ → Bool
 is_set flag = flag == 1
 
+-- a direction as shutdown(2) numbers it
+abbrev pub how_of : ℕ → How
+how_of k = if k == 0 then hows.Read else if k == 1 then hows.Write else hows.Both
+
+abbrev pub family_of : ℕ → Family
+family_of k = if k == 0 then families.Tcp else families.Unix
+
+abbrev pub space_of : ℕ → Space
+space_of k = if k == 0 then spaces.V4 else if k == 1 then spaces.V6 else spaces.Local
+
+abbrev pub name_of : ℕ → ℕ → Name
+name_of space number = record { space = space_of space; number = number }
+
 abbrev pub call_of : Kind → Asked → Call
 call_of kinds.Pipe a = calls.Pipe (is_set a.count)
 call_of kinds.SocketPair a = calls.SocketPair (is_set a.count)
 call_of kinds.EventFd a = calls.EventFd a.n (is_set a.x) (is_set a.count)
 call_of kinds.TimerFd a = calls.TimerFd a.m (is_set a.count)
+call_of kinds.Socket a = calls.Socket (family_of a.n) (is_set a.count)
 call_of kinds.Plain a = calls.Plain (is_set a.count)
 call_of kinds.EpollCreate a = calls.EpollCreate (is_set a.count)
 call_of kinds.EpollCtl a = calls.EpollCtl a.fd (pos a.count) (record { 0 = a.m }) (record { 0 = a.n }) a.x
@@ -49,7 +70,14 @@ call_of kinds.EpollWait a = calls.EpollWait a.fd a.m (cast_signed w64 a.x)
 call_of kinds.Read a = calls.Read a.fd a.n
 call_of kinds.Write a = calls.Write a.fd (first_bytes a.count a.x a.y)
 call_of kinds.Fill a = calls.Write a.fd (replicate a.x a.count)
-call_of kinds.Shutdown a = calls.Shutdown a.fd
+call_of kinds.Shutdown a = calls.Shutdown a.fd (how_of a.count)
+call_of kinds.Peek a = calls.Peek a.fd a.n
+call_of kinds.TakeError a = calls.TakeError a.fd
+call_of kinds.SocketName a = calls.SocketName a.fd (is_set a.count)
+call_of kinds.Bind a = calls.Bind a.fd (name_of a.count a.n)
+call_of kinds.Listen a = calls.Listen a.fd a.m
+call_of kinds.Connect a = calls.Connect a.fd (name_of a.count a.n)
+call_of kinds.Accept a = calls.Accept a.fd (is_set a.count)
 call_of kinds.SetTime a = calls.SetTime a.fd (is_set a.count) a.x a.y
 call_of kinds.GetTime a = calls.GetTime a.fd
 call_of kinds.Dup a = calls.Dup a.fd
@@ -78,6 +106,10 @@ answer_of whats.NoReports s = answers.Events []
 answer_of whats.OneReport s = answers.Events (record { bits = record { 0 = s.n }; tag = s.y } ∷ [])
 answer_of whats.Time s = answers.Time s.z s.n
 answer_of whats.Parked s = answers.Parked
+answer_of whats.Connecting s = answers.Connecting
+answer_of whats.Failed s = answers.Failed s.errno
+answer_of whats.Unnamed s = answers.Named None
+answer_of whats.Named s = answers.Named (Some (name_of s.x s.n))
 answer_of whats.Refused s = answers.Refused s.errno
 answer_of w s = answers.Still
 
@@ -160,6 +192,7 @@ IsListless k = Unit {0}
 abbrev pub Makes : Kind → Type 0
 Makes kinds.Pipe = Unit {0}
 Makes kinds.SocketPair = Unit {0}
+Makes kinds.Socket = Unit {0}
 Makes kinds.EventFd = Unit {0}
 Makes kinds.TimerFd = Unit {0}
 Makes kinds.Plain = Unit {0}
@@ -175,6 +208,17 @@ Acts kinds.Shutdown = Unit {0}
 Acts kinds.SetTime = Unit {0}
 Acts kinds.GetTime = Unit {0}
 Acts k = ⊥
+
+-- it is a call that only a socket answers
+abbrev pub AsksSocket : Kind → Type 0
+AsksSocket kinds.Peek = Unit {0}
+AsksSocket kinds.TakeError = Unit {0}
+AsksSocket kinds.SocketName = Unit {0}
+AsksSocket kinds.Bind = Unit {0}
+AsksSocket kinds.Listen = Unit {0}
+AsksSocket kinds.Connect = Unit {0}
+AsksSocket kinds.Accept = Unit {0}
+AsksSocket k = ⊥
 
 -- a call on an instance
 abbrev pub IsOnInstance : Call → Type 0

@@ -1,5 +1,6 @@
 //! Records of the commonest events, by what was answered. No answer has to be made for them.
-ghost use Rattle.std.specs.Prelude.{◌≡◌, ◌+◌, ◌<◌, ◌≤◌, [], ◌∷◌, ◌++◌, IsFalse, IsTrue};
+ghost use Rattle.std.specs.Prelude.{◌≡◌, ◌+◌, ◌<◌, ◌≤◌, [], ◌∷◌, ◌++◌, IsFalse, IsTrue, length};
+ghost use Rattle.ep_records.specs.Short.{IsShortReader, IsShortReporter, IsShortWrite};
 ghost use Rattle.ep_records.specs.Slot.{made, told};
 
 use crate::history::History;
@@ -17,6 +18,7 @@ impl History {
         ensures other { IsFalse result → self.new ≡ self.old }
         ensures room { self.old.room ≤ self.new.room + 1 }
         ensures taken { self.new.taken ≡ self.old.taken }
+        ensures short { IsShortWrite event.now → IsTrue result }
     {
         let Event::Call {
             pid,
@@ -46,6 +48,7 @@ impl History {
         ensures other { IsFalse result → self.new ≡ self.old }
         ensures room { self.old.room ≤ self.new.room + 1 }
         ensures taken { self.new.taken ≡ self.old.taken }
+        ensures short { IsShortReader event.now → length given.now ≤ 16 → IsTrue result }
     {
         let Event::Call {
             pid,
@@ -81,6 +84,7 @@ impl History {
         ensures other { IsFalse result → self.new ≡ self.old }
         ensures room { self.old.room ≤ self.new.room + 1 }
         ensures taken { self.new.taken ≡ self.old.taken }
+        ensures short { IsShortReporter event.now → IsTrue result }
     {
         match Slot::reporting(caller, event, report, number) {
             Some(slot) => {

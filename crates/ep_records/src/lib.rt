@@ -13,6 +13,7 @@ mod pack;
 mod parts;
 mod said;
 mod slot;
+mod sockets;
 mod swap;
 mod taken;
 mod unpack;

@@ -95,6 +95,10 @@ impl Slot {
             | What::Time
             | What::Parked
             | What::Still
+            | What::Connecting
+            | What::Failed
+            | What::Unnamed
+            | What::Named
             | What::Refused
             | What::WaitReports
             | What::ResumeReports
@@ -171,6 +175,10 @@ impl Slot {
             | What::Time
             | What::Parked
             | What::Still
+            | What::Connecting
+            | What::Failed
+            | What::Unnamed
+            | What::Named
             | What::Refused => self.is_same(other, beside.allocator()),
         }
     }

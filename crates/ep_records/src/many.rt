@@ -1,6 +1,7 @@
 //! Records of many reports or bytes, which stand beside the slots if there is room.
 ghost use Rattle.std.specs.Prelude.{◌≡◌, ◌+◌, ◌<◌, ◌≤◌, [], ◌∷◌, ◌++◌, IsFalse, IsTrue};
 ghost use Rattle.ep_base.specs.declared.call.Call.TheVariants.{Read as read_call, Write as write_call};
+ghost use Rattle.ep_records.specs.Short.{IsSeldom, IsSilentShort};
 ghost use Rattle.ep_records.specs.Slot.{asked, event_of, made, quiet};
 
 use crate::history::History;
@@ -271,6 +272,27 @@ impl History {
         }
     }
 
+    /// The record of an event whose answer few calls have, if it takes no more than its slot.
+    #[cold]
+    #[inline(never)]
+    fn push_seldom(&mut self, caller: CallerId, event: &Event, answer: &Answer) -> bool
+        requires { 0 < self.old.room }
+        ensures pushed { IsTrue result
+            → self.new.items ≡ self.old.items ++ made caller event.now answer.now ∷ [] }
+        ensures other { IsFalse result → self.new ≡ self.old }
+        ensures room { self.old.room ≤ self.new.room + 1 }
+        ensures taken { self.new.taken ≡ self.old.taken }
+        ensures seldom { IsSeldom answer.now → IsSilentShort event.now answer.now → IsTrue result }
+    {
+        match Slot::seldom(caller, event, answer) {
+            Some(slot) => {
+                self.slots.push_reserved(slot);
+                true
+            }
+            None => false,
+        }
+    }
+
     /// The record of an event whose reports or bytes are many, if there is room for them; else `false`, and nothing
     /// changes.
     #[inline(never)]
@@ -291,6 +313,8 @@ impl History {
         ensures other { IsFalse result → self.new ≡ self.old }
         ensures room { self.old.room ≤ self.new.room + 1 }
         ensures taken { self.new.taken ≡ self.old.taken }
+        ensures seldom { picked.now ≡ [] → IsSeldom answer.now → IsSilentShort event.now answer.now
+            → IsTrue result }
     {
         match answer {
             Answer::Events(reports) => {
@@ -301,6 +325,9 @@ impl History {
                 picked.is_empty() && self.push_long_read(caller, event, bytes.as_slice())
             }
             Answer::Num(taken) => picked.is_empty() && self.push_taken(caller, event, *taken),
+            Answer::Connecting | Answer::Failed(_) => {
+                picked.is_empty() && self.push_seldom(caller, event, answer)
+            }
             _ => false,
         }
     }

@@ -4,16 +4,17 @@ ghost use Rattle.std.specs.Int.{cast_signed, w64};
 ghost use Rattle.ep_base.specs.Call.{IsOnObject, MakesFiles};
 ghost use Rattle.ep_base.specs.declared.call.Call.TheVariants.{EventFd as event_fd_call, GetTime as get_time_call, Pipe as pipe_call, Read as read_call, SetTime as set_time_call, SocketPair as socket_pair_call, TimerFd as timer_fd_call, Write as write_call};
 ghost use Rattle.ep_records.specs.Slot.{IsOnInstance, event_in, event_of, is_set, made, only_fd, quiet, record_in, told};
-ghost use Rattle.ep_records.specs.Short.{IsBrief, IsShortCall, IsShortPair, IsShortRead, IsShortReporter, IsShortSetting, IsSilentShort, IsToldShort, IsWait};
+ghost use Rattle.ep_records.specs.Short.{IsBrief, IsShortCall, IsShortPair, IsShortRead, IsShortEvent, IsShortReporter, IsShortSetting, IsToldShort, IsWait};
 
 use crate::slot::{BLANK, Kind, Slot, What};
+use crate::sockets::{family_number, how_number};
 use crate::words::Words;
 use ep_base::{
     Answer, Buffer, Call, CallerId, Content, EntryNumber, Event, Fd, Report, Reports, Span, Timeout,
 };
 
 /// A truth value as a number.
-fn flag_of(set: bool) -> u8
+pub(crate) fn flag_of(set: bool) -> u8
     ensures { is_set result ≡ set }
 {
     if set { 1 } else { 0 }
@@ -97,7 +98,7 @@ impl Slot {
 
     /// With an answer of one number at most.
     #[inline(always)]
-    fn answered(self, answer: &Answer) -> Option<Slot>
+    pub(crate) fn answered(self, answer: &Answer) -> Option<Slot>
         ensures is { IfSome result
             (λ s. record_in s ≡ Some (made self.caller (event_in self) answer.now)) }
         ensures short { IsBrief answer.now → IsSome result }
@@ -126,12 +127,23 @@ impl Slot {
                 errno: *errno,
                 ..self
             }),
-            Answer::Two(_, _) | Answer::Bytes(_) | Answer::Time { .. } => None,
+            Answer::Two(_, _)
+            | Answer::Bytes(_)
+            | Answer::Time { .. }
+            | Answer::Connecting
+            | Answer::Failed(_)
+            | Answer::Named(_) => None,
         }
     }
 
     /// A call that tells no number beside a descriptor.
-    fn on(caller: CallerId, pid: u32, kind: Kind, fd: Fd, answer: &Answer) -> Option<Slot>
+    pub(crate) fn on(
+        caller: CallerId,
+        pid: u32,
+        kind: Kind,
+        fd: Fd,
+        answer: &Answer,
+    ) -> Option<Slot>
         ensures is { IfSome result
             (λ s. record_in s ≡ Some (made caller (event_of kind pid (only_fd fd)) answer.now)) }
         ensures short { IsBrief answer.now → IsSome result }
@@ -245,6 +257,13 @@ impl Slot {
                 cloexec,
             } => slot.event_fd(init, semaphore, cloexec, answer),
             Call::TimerFd { clock, cloexec } => slot.timer_fd(clock, cloexec, answer),
+            Call::Socket { family, cloexec } => Slot {
+                kind: Kind::Socket,
+                count: flag_of(cloexec),
+                n: family_number(family),
+                ..slot
+            }
+            .answered(answer),
             Call::Plain { cloexec } => Slot {
                 kind: Kind::Plain,
                 count: flag_of(cloexec),
@@ -445,7 +464,15 @@ impl Slot {
                 Slot::watching(caller, pid, call, answer)
             }
             Call::Read { fd, n } => Slot::read(caller, pid, fd, n, answer),
-            Call::Shutdown { fd } => Slot::on(caller, pid, Kind::Shutdown, fd, answer),
+            Call::Shutdown { fd, how } => Slot {
+                caller,
+                pid,
+                fd,
+                kind: Kind::Shutdown,
+                count: how_number(how),
+                ..BLANK
+            }
+            .answered(answer),
             Call::SetTime {
                 fd,
                 absolute,
@@ -485,8 +512,16 @@ impl Slot {
             | Call::EventFd { .. }
             | Call::TimerFd { .. }
             | Call::SocketPair { .. }
+            | Call::Socket { .. }
             | Call::Plain { .. }
             | Call::EpollCreate { .. } => Slot::making(caller, pid, call, answer),
+            Call::Peek { .. }
+            | Call::TakeError { .. }
+            | Call::SocketName { .. }
+            | Call::Bind { .. }
+            | Call::Listen { .. }
+            | Call::Connect { .. }
+            | Call::Accept { .. } => Slot::on_socket(caller, pid, call, answer),
             Call::Dup { fd } => Slot::on(caller, pid, Kind::Dup, *fd, answer),
             Call::Dup2 { fd, to } => {
                 let slot = Slot {
@@ -508,9 +543,9 @@ impl Slot {
 
     /// An event that reports nothing.
     #[inline(always)]
-    fn unpicked(caller: CallerId, event: &Event, answer: &Answer) -> Option<Slot>
+    pub(crate) fn unpicked(caller: CallerId, event: &Event, answer: &Answer) -> Option<Slot>
         ensures is { IfSome result (λ s. record_in s ≡ Some (made caller event.now answer.now)) }
-        ensures short { IsSilentShort event.now answer.now → IsSome result }
+        ensures short { IsShortEvent event.now answer.now → IsSome result }
     {
         match event {
             Event::Call { pid, call } => match u32::try_from(pid.0) {
@@ -628,7 +663,7 @@ impl Slot {
           answer = answer.now;
           picked = picked.now;
         })) }
-        ensures silent { picked.now ≡ [] → IsSilentShort event.now answer.now → IsSome result }
+        ensures silent { picked.now ≡ [] → IsShortEvent event.now answer.now → IsSome result }
         ensures told { IsToldShort event.now answer.now picked.now → IsSome result }
     {
         if picked.is_empty() {

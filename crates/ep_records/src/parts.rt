@@ -69,6 +69,10 @@ impl Slot {
             | What::Time
             | What::Parked
             | What::Still
+            | What::Connecting
+            | What::Failed
+            | What::Unnamed
+            | What::Named
             | What::Refused => self.told_event(alloc),
         }
     }
@@ -93,6 +97,10 @@ impl Slot {
             | What::Time
             | What::Parked
             | What::Still
+            | What::Connecting
+            | What::Failed
+            | What::Unnamed
+            | What::Named
             | What::Refused => Said::Made(self.answer(beside.allocator())),
         }
     }
@@ -115,6 +123,10 @@ impl Slot {
             | What::Time
             | What::Parked
             | What::Still
+            | What::Connecting
+            | What::Failed
+            | What::Unnamed
+            | What::Named
             | What::Refused
             | What::LongRead
             | What::LongWrite => Numbers::these(&[]),

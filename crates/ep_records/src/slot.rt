@@ -6,6 +6,7 @@ use ep_base::{CallerId, Errno, Fd};
 pub enum Kind {
     Pipe,
     SocketPair,
+    Socket,
     EventFd,
     TimerFd,
     Plain,
@@ -18,6 +19,13 @@ pub enum Kind {
     /// A write of one byte, over and over.
     Fill,
     Shutdown,
+    Peek,
+    TakeError,
+    SocketName,
+    Bind,
+    Listen,
+    Connect,
+    Accept,
     SetTime,
     GetTime,
     Dup,
@@ -42,6 +50,12 @@ pub enum What {
     Time,
     Parked,
     Still,
+    Connecting,
+    Failed,
+    /// A socket has no name.
+    Unnamed,
+    /// The name of a socket: its space is `x`, its number `n`.
+    Named,
     Refused,
     /// A wait made `n` reports, from the place `y` on among the reports, with their numbers from `z` on.
     WaitReports,

@@ -7,6 +7,7 @@ ghost use Rattle.ep_records.specs.Slot.{Acts, IsListless, Makes, answer_of, aske
 
 use crate::pack::only_number;
 use crate::slot::{Kind, Slot, What};
+use crate::sockets::{numbered_family, numbered_how, numbered_name};
 use crate::words::{Words, front};
 use ep_base::{
     Answer, Buffer, Bytes, Call, Content, EntryNumber, Event, Fd, Mask, Picked, Pid, Record,
@@ -93,6 +94,10 @@ impl Slot {
                 clock: self.m,
                 cloexec,
             },
+            Kind::Socket => Call::Socket {
+                family: numbered_family(self.n),
+                cloexec,
+            },
             Kind::Plain => Call::Plain { cloexec },
             Kind::EpollCreate => Call::EpollCreate { cloexec },
             _ => unreachable!(),
@@ -119,7 +124,10 @@ impl Slot {
                 timeout: Timeout(self.x.cast_signed()),
             },
             Kind::Read => Call::Read { fd, n: self.n },
-            Kind::Shutdown => Call::Shutdown { fd },
+            Kind::Shutdown => Call::Shutdown {
+                fd,
+                how: numbered_how(self.count),
+            },
             Kind::SetTime => Call::SetTime {
                 fd,
                 absolute: self.count == 1,
@@ -140,6 +148,7 @@ impl Slot {
         match self.kind {
             Kind::Pipe
             | Kind::SocketPair
+            | Kind::Socket
             | Kind::EventFd
             | Kind::TimerFd
             | Kind::Plain
@@ -150,6 +159,13 @@ impl Slot {
             | Kind::Shutdown
             | Kind::SetTime
             | Kind::GetTime => self.acted_call(),
+            Kind::Peek
+            | Kind::TakeError
+            | Kind::SocketName
+            | Kind::Bind
+            | Kind::Listen
+            | Kind::Connect
+            | Kind::Accept => self.socket_call(),
             Kind::Write => unreachable!(),
             Kind::Fill => Call::Write {
                 fd,
@@ -175,6 +191,7 @@ impl Slot {
             Kind::Write => unreachable!(),
             Kind::Pipe
             | Kind::SocketPair
+            | Kind::Socket
             | Kind::EventFd
             | Kind::TimerFd
             | Kind::Plain
@@ -184,6 +201,13 @@ impl Slot {
             | Kind::Read
             | Kind::Fill
             | Kind::Shutdown
+            | Kind::Peek
+            | Kind::TakeError
+            | Kind::SocketName
+            | Kind::Bind
+            | Kind::Listen
+            | Kind::Connect
+            | Kind::Accept
             | Kind::SetTime
             | Kind::GetTime
             | Kind::Dup
@@ -230,6 +254,10 @@ impl Slot {
                 interval: Span(self.n as u64),
             },
             What::Parked => Answer::Parked,
+            What::Connecting => Answer::Connecting,
+            What::Failed => Answer::Failed(self.errno),
+            What::Unnamed => Answer::Named(None),
+            What::Named => Answer::Named(Some(numbered_name(self.x, self.n))),
             What::Refused => Answer::Refused(self.errno),
             What::Still
             | What::WaitReports
@@ -256,6 +284,10 @@ impl Slot {
             | What::Time
             | What::Parked
             | What::Still
+            | What::Connecting
+            | What::Failed
+            | What::Unnamed
+            | What::Named
             | What::Refused
             | What::WaitReports
             | What::ResumeReports
@@ -314,6 +346,10 @@ impl Slot {
             | What::Time
             | What::Parked
             | What::Still
+            | What::Connecting
+            | What::Failed
+            | What::Unnamed
+            | What::Named
             | What::Refused
             | What::WaitReports
             | What::ResumeReports

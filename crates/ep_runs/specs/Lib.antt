@@ -4,6 +4,7 @@ pub mod RefusalRuns
 pub mod CounterRuns
 pub mod TimerRuns
 pub mod SocketRuns
+pub mod HalfClosedRuns
 pub mod DescriptorRuns
 pub mod RegistrationRuns
 pub mod EdgeRuns

@@ -6,13 +6,15 @@ use Rattle.ep_base.specs.declared.answer.Answer.TheVariants.{Done, Events, Refus
 use Rattle.ep_base.specs.declared.answer.Report.{Report}
 use Rattle.ep_base.specs.declared.call.Call.{Call}
 use Rattle.ep_base.specs.declared.call.Call.TheVariants.{Close, Dup, Dup2, EpollCreate, EpollCtl, EpollWait}
-use Rattle.ep_base.specs.declared.call.Call.TheVariants.{EventFd, GetTime, Pipe as PipeCall, Plain, Read}
-use Rattle.ep_base.specs.declared.call.Call.TheVariants.{SetTime, Shutdown, SocketPair, TimerFd, Write}
+use Rattle.ep_base.specs.declared.call.Call.TheVariants.{EventFd, GetTime, Peek, Pipe as PipeCall, Plain, Read}
+use Rattle.ep_base.specs.declared.call.Call.TheVariants.{SetTime, Shutdown, SocketName, SocketPair, TakeError, TimerFd, Write}
 use Rattle.ep_base.specs.declared.call.Event.{Event}
 use Rattle.ep_base.specs.declared.call.Event.TheVariants.{Call as CallOf, Resume, Tick}
 use Rattle.ep_base.specs.declared.errno.Errno.{Errno}
 use Rattle.ep_base.specs.declared.ids.Fd.{Fd}
 use Rattle.ep_base.specs.declared.record.Record.{Record}
+use Rattle.ep_base.specs.declared.socket.How.{How}
+use Rattle.ep_base.specs.declared.socket.How.TheVariants as hows
 
 -- limits on descriptors, files and registrations; the others don't matter here
 abbrev pub small_limits : ℕ → ℕ → ℕ → Limits
@@ -82,7 +84,20 @@ abbrev pub write_call : ℤ → List ℕ → Call
 write_call fd bytes = Write (fd_of fd) bytes
 
 abbrev pub shutdown_call : ℤ → Call
-shutdown_call fd = Shutdown (fd_of fd)
+shutdown_call fd = Shutdown (fd_of fd) hows.Write
+
+-- shutdown(2) of more than the writing
+abbrev pub shut_call : ℤ → How → Call
+shut_call fd how = Shutdown (fd_of fd) how
+
+abbrev pub peek_call : ℤ → ℕ → Call
+peek_call fd n = Peek (fd_of fd) n
+
+abbrev pub error_call : ℤ → Call
+error_call fd = TakeError (fd_of fd)
+
+abbrev pub name_call : ℤ → Bool → Call
+name_call fd of_peer = SocketName (fd_of fd) of_peer
 
 abbrev pub settime_call : ℤ → Bool → ℕ → ℕ → Call
 settime_call fd absolute value interval = SetTime (fd_of fd) absolute value interval

@@ -7,6 +7,7 @@ pub mod descriptors;
 pub mod edge;
 pub mod exclusive;
 pub mod exclusive_scripts;
+pub mod half_closed;
 pub mod level;
 pub mod nests;
 pub mod parking;

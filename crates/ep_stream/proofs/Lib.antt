@@ -1,6 +1,8 @@
 pub mod Arrivals
 mod Laws
 mod PairArrivals
+pub mod PairClosed
+mod PairMarks
 mod Peers
 mod Prefixes
 mod Runs

@@ -3,10 +3,12 @@ use Rattle.std.specs.Prelude.{Bool, IsTrue, List, not, ℕ}
 use Rattle.ep_base.specs.declared.object.End.{End}
 use Rattle.ep_base.specs.declared.object.End.TheVariants.{First, Second}
 use Rattle.ep_base.specs.declared.object.Raised.{Raised}
+use Rattle.ep_base.specs.declared.socket.How.{How}
 use Rattle.ep_machine.specs.Bits.{at_end, IsCovered}
 use Rattle.ep_machine.specs.Effect.{attempt}
 use Rattle.ep_machine.specs.Pipe.{Pipe, pipe_close, pipe_present, pipe_read, pipe_read_refusals, pipe_write, pipe_write_refusals}
-use Rattle.ep_machine.specs.Sockets.{SocketPair, own, pair_close, pair_present, pair_read, pair_read_refusals, pair_shutdown, pair_write, pair_write_refusals}
+use Rattle.ep_machine.specs.Sockets.{SocketPair, own, pair_close, pair_peek, pair_present, pair_read, pair_read_refusals}
+use Rattle.ep_machine.specs.Sockets.{pair_shutdown, pair_take_error, pair_write, pair_write_refusals}
 
 -- so it is at each end that is there before and after
 abbrev pub RaisesArrivals : {X : Type 0} → (X → End → Bool) → (X → End → ℕ) → X → X → Raised → Type 0
@@ -37,13 +39,21 @@ PairReadLaw = (p : SocketPair) (e : End) (n : ℕ)
     → let effect = attempt (pair_read_refusals p e n) p (pair_read p e n) in
     RaisesArrivals pair_has pair_present p effect.1 effect.2
 
+abbrev pub PairPeekLaw : Type 0
+PairPeekLaw = (p : SocketPair) (e : End) (n : ℕ)
+    → let effect = attempt (pair_read_refusals p e n) p (pair_peek p e n) in
+    RaisesArrivals pair_has pair_present p effect.1 effect.2
+
 abbrev pub PairWriteLaw : Type 0
 PairWriteLaw = (p : SocketPair) (e : End) (bytes : List ℕ)
     → let effect = attempt (pair_write_refusals p e bytes) p (pair_write p e bytes) in
     RaisesArrivals pair_has pair_present p effect.1 effect.2
 
 abbrev pub PairShutdownLaw : Type 0
-PairShutdownLaw = (p : SocketPair) (e : End) → let effect = pair_shutdown p e in RaisesArrivals pair_has pair_present p effect.1 effect.2
+PairShutdownLaw = (p : SocketPair) (e : End) (how : How) → let effect = pair_shutdown p e how in RaisesArrivals pair_has pair_present p effect.1 effect.2
+
+abbrev pub PairErrorLaw : Type 0
+PairErrorLaw = (p : SocketPair) (e : End) → let effect = pair_take_error p e in RaisesArrivals pair_has pair_present p effect.1 effect.2
 
 abbrev pub PairCloseLaw : Type 0
 PairCloseLaw = (p : SocketPair) (e : End) → let closed = pair_close p e in RaisesArrivals pair_has pair_present p closed.0 closed.1

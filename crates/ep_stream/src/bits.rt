@@ -1,6 +1,6 @@
 //! Sets of event bits.
-ghost use Rattle.std.specs.Prelude.{◌≡◌, bit_and, bit_or};
-ghost use Rattle.ep_machine.specs.Bits.{beginning, when};
+ghost use Rattle.std.specs.Prelude.{◌≡◌, ◌∷◌, [], bit_and, bit_or};
+ghost use Rattle.ep_machine.specs.Bits.{beginning, union, when};
 
 use ep_base::Mask;
 
@@ -33,4 +33,12 @@ pub(crate) fn beginning(before: Mask, after: Mask) -> Mask
     ensures { result.0 ≡ beginning before.0 after.0 }
 {
     Mask(after.0 - (after.0 & before.0))
+}
+
+/// What is told, and whatever holds after and not before.
+#[tactic(auto, using(crate::proofs::Unions::or_nothing))]
+pub(crate) fn told_or_begun(told: Mask, before: Mask, after: Mask) -> Mask
+    ensures { result.0 ≡ union (told.0 ∷ beginning before.0 after.0 ∷ []) }
+{
+    union(told, beginning(before, after))
 }

@@ -1,10 +1,10 @@
 //! The two ends, and what is raised at them.
 ghost use Rattle.std.specs.Prelude.{◌≡◌};
 ghost use Rattle.ep_machine.specs.Bits.{raises};
-ghost use Rattle.ep_machine.specs.Sockets.{raised_ends};
+ghost use Rattle.ep_machine.specs.Sockets.{raised_ends, shuts_read, shuts_write};
 ghost use Rattle.ep_stream.specs.Ends.{opposite};
 
-use ep_base::{End, Mask, Raised};
+use ep_base::{End, How, Mask, Raised};
 
 /// The other end.
 pub(crate) fn opposite(end: End) -> End
@@ -30,5 +30,25 @@ pub(crate) fn raised_ends(end: End, own: Mask, peer: Mask) -> Raised
     match end {
         End::First => raises(own, peer),
         End::Second => raises(peer, own),
+    }
+}
+
+/// Whether this shuts reading.
+pub(crate) fn shuts_read(how: How) -> bool
+    ensures { result ≡ shuts_read how }
+{
+    match how {
+        How::Read | How::Both => true,
+        How::Write => false,
+    }
+}
+
+/// Whether this shuts writing.
+pub(crate) fn shuts_write(how: How) -> bool
+    ensures { result ≡ shuts_write how }
+{
+    match how {
+        How::Write | How::Both => true,
+        How::Read => false,
     }
 }

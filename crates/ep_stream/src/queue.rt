@@ -11,6 +11,7 @@ use std::alloc::AllocError;
 const CHUNK: usize = 256;
 
 /// The first `count` bytes, which stay. At most 16 of them take no memory.
+#[inline(always)]
 #[tactic(auto, using(crate::proofs::Prefixes::take_parts))]
 fn first_bytes(queue: &HeapCircularBuffer<u8>, count: usize) -> Result<SmallVec<u8, 16>, AllocError>
     requires { count ≤ length queue.now.items }
@@ -37,6 +38,15 @@ pub(crate) fn take_front(queue: &mut HeapCircularBuffer<u8>, n: u32) -> Result<B
     let bytes = first_bytes(queue, count)?;
     queue.truncate_front(queue.len() - count);
     Ok(Bytes::new(bytes))
+}
+
+/// The first bytes, at most `n` of them, which stay. At most 16 take no memory.
+pub(crate) fn peek_front(queue: &HeapCircularBuffer<u8>, n: u32) -> Result<Bytes, AllocError>
+    ensures ok { IfOk result (λ bytes. bytes ≡ take n queue.now.items) }
+    ensures inline { min n (length queue.now.items) ≤ 16 → IsOk result }
+{
+    let count = queue.len().min(n as usize);
+    Ok(Bytes::new(first_bytes(queue, count)?))
 }
 
 /// Puts this byte behind the others, so many times or as often as it fits, and answers how often. It stands out of the

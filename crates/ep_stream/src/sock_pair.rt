@@ -1,25 +1,33 @@
 //! Pairs of connected Unix stream sockets, as socketpair(2) makes them.
-ghost use Rattle.std.specs.Prelude.{◌≡◌, ◌≤◌, ◌-◌, ◌==◌, ◌||◌, ◌&&◌, length, min, nat_lt, not, IfOk, IsOk, OnErr};
+ghost use Rattle.std.specs.Prelude.{◌≡◌, ◌≤◌, ◌-◌, ◌||◌, ◌&&◌, Bool, None, length, min, nat_lt, not, false, true, IfOk, IsOk, OnErr};
+ghost use Rattle.ep_base.specs.declared.answer.Answer.TheVariants.{Named};
+ghost use Rattle.ep_base.specs.declared.socket.Family.TheVariants.{Unix};
+ghost use Rattle.ep_machine.specs.Bits.{nothing};
 ghost use Rattle.ep_machine.specs.Effect.{attempt, first};
 ghost use Rattle.ep_machine.specs.Lists.{is_empty};
-ghost use Rattle.ep_machine.specs.Sockets.{is_over, new_pair, new_socket, own, pair_close, pair_present, pair_read, pair_read_refusals, pair_room, pair_shutdown, pair_write, pair_write_refusals, peer, raised_ends, socket_present};
+ghost use Rattle.ep_machine.specs.Sockets.{comes_no_more, ended, failed, fails_reading, new_pair, new_socket, own, pair_close, pair_name, pair_name_refusals, pair_peek, pair_present, pair_read, pair_read_refusals, pair_shut, pair_shut_refusals, pair_shutdown, pair_take_error, pair_write, pair_write_refusals, peer, shuts_read, shuts_write, socket_present, unix_closed, wants_more, without_error};
 ghost use Rattle.ep_stream.specs.Waiting.{pair_waiting};
 
-use crate::bits::{NONE, beginning, intersection, union, when};
-use crate::ends::{opposite, raised_ends, raises};
-use crate::queue::{put_back, take_front};
+use crate::bits::{NONE, beginning, intersection, told_or_begun, union, when};
+use crate::ends::{opposite, raised_ends, raises, shuts_read, shuts_write};
+use crate::queue::{peek_front, put_back, take_front};
 use circular_buffer::HeapCircularBuffer;
-use ep_base::{Answer, Buffer, End, Errno, Mask, Raised};
+use ep_base::{Answer, Buffer, End, Errno, How, Mask, Name, Raised};
 use std::alloc::{AllocError, Global};
 use std::marker::Model;
-use std::mem;
 
-/// One end: the bytes that it may read, whether it shut its writing, and whether it is closed.
+/// What an end is told where nothing more comes to it.
+const END_OF_INPUT: Mask = Mask(Mask::IN.0 | Mask::RDHUP.0);
+
+/// One end: the bytes that it may read, whether it shut its writing and its reading, whether it is closed, and the
+/// error that waits to be taken.
 #[derive(Drop)]
 struct Socket {
     queue: HeapCircularBuffer<u8>,
     is_shut: bool,
+    is_deaf: bool,
     is_closed: bool,
+    error: Option<Errno>,
 }
 
 impl Socket {
@@ -27,21 +35,16 @@ impl Socket {
 
     /// An open end with an empty queue of at most `capacity` bytes.
     fn new(alloc: Global, capacity: u32) -> Result<Socket, AllocError>
-        ensures socket { IfOk result (λ socket. socket_of socket ≡ new_socket) }
+        ensures socket { IfOk result (λ socket. socket_of false socket ≡ new_socket None) }
         ensures capacity { IfOk result (λ socket. socket.queue.capacity ≡ capacity) }
     {
         Ok(Socket {
             queue: HeapCircularBuffer::with_capacity(alloc, capacity as usize)?,
             is_shut: false,
+            is_deaf: false,
             is_closed: false,
+            error: None,
         })
-    }
-
-    /// Whether nothing more comes from this end.
-    fn is_over(&self) -> bool
-        ensures { result ≡ is_over (socket_of self.now) }
-    {
-        self.is_shut || self.is_closed
     }
 
     /// How many more bytes fit in what this end may read.
@@ -51,18 +54,34 @@ impl Socket {
         self.queue.capacity() - self.queue.len()
     }
 
-    /// Whether a read would not block, where this is the peer.
-    fn has_input(&self, peer: &Socket) -> bool
-        ensures { result ≡ (not (is_empty self.now.queue.items) || is_over (socket_of peer.now)) }
+    /// Whether nothing more comes to this end, where this is the peer.
+    fn comes_no_more(&self, peer: &Socket) -> bool
+        ensures { result ≡ (self.now.is_deaf || peer.now.is_shut || peer.now.is_closed) }
     {
-        !self.queue.is_empty() || peer.is_over()
+        self.is_deaf || peer.is_shut || peer.is_closed
     }
 
-    /// Whether neither end writes any more, where this is the peer.
-    fn is_hung_up(&self, peer: &Socket) -> bool
-        ensures { result ≡ (peer.now.is_closed || self.now.is_shut && peer.now.is_shut) }
+    /// Whether nothing more goes from this end, where this is the peer.
+    fn goes_no_more(&self, peer: &Socket) -> bool
+        ensures { result ≡ (self.now.is_shut || (peer.now.is_deaf || peer.now.is_closed)) }
     {
-        peer.is_closed || self.is_shut && peer.is_shut
+        self.is_shut || (peer.is_deaf || peer.is_closed)
+    }
+
+    /// Whether a read would not block, where this is the peer.
+    fn has_input(&self, peer: &Socket) -> bool
+        ensures { result ≡ (not (is_empty self.now.queue.items)
+            || (self.now.is_deaf || peer.now.is_shut || peer.now.is_closed)) }
+    {
+        !self.queue.is_empty() || self.comes_no_more(peer)
+    }
+
+    /// Whether nothing more comes to this end or goes from it, where this is the peer.
+    fn is_hung_up(&self, peer: &Socket) -> bool
+        ensures { result ≡ ((self.now.is_deaf || peer.now.is_shut || peer.now.is_closed)
+            && (self.now.is_shut || (peer.now.is_deaf || peer.now.is_closed))) }
+    {
+        self.comes_no_more(peer) && self.goes_no_more(peer)
     }
 
     /// Whether a write to this end would not block.
@@ -77,13 +96,45 @@ impl Socket {
     #[tactic(auto, using(crate::proofs::Unions::or_nothing))]
     fn present(&self, peer: &Socket) -> Mask
         ensures { result.0 ≡
-            socket_present peer.now.queue.capacity (socket_of self.now) (socket_of peer.now) }
+            socket_present Unix peer.now.queue.capacity (socket_of false self.now) (socket_of false peer.now) }
     {
         let input = when(self.has_input(peer), Mask::IN);
-        let read_hang_up = when(peer.is_over(), Mask::RDHUP);
+        let read_hang_up = when(self.comes_no_more(peer), Mask::RDHUP);
         let hang_up = when(self.is_hung_up(peer), Mask::HUP);
         let output = when(peer.takes_more(), Mask::OUT);
-        union(input, union(read_hang_up, union(hang_up, output)))
+        let error = when(self.error.is_some(), Mask::ERR);
+        union(
+            input,
+            union(read_hang_up, union(hang_up, union(output, error))),
+        )
+    }
+
+    /// Shuts what `how` names. Whether its reading was open before and no longer is, and whether its writing was.
+    fn shut(&mut self, how: How) -> (bool, bool)
+        ensures reading { result.0 ≡ (shuts_read how && not self.old.is_deaf) }
+        ensures writing { result.1 ≡ (shuts_write how && not self.old.is_shut) }
+        ensures socket { self.new ≡ record self.old {
+          is_shut = self.old.is_shut || shuts_write how;
+          is_deaf = self.old.is_deaf || shuts_read how;
+        } }
+    {
+        let reading = shuts_read(how) && !self.is_deaf;
+        let writing = shuts_write(how) && !self.is_shut;
+        self.is_deaf = self.is_deaf || shuts_read(how);
+        self.is_shut = self.is_shut || shuts_write(how);
+        (reading, writing)
+    }
+
+    /// Leaves an end of which nobody can tell any more what it was: it and its peer are closed.
+    fn end(&mut self)
+        ensures socket { socket_of true self.new ≡ ended }
+        ensures capacity { self.new.queue.capacity ≡ self.old.queue.capacity }
+    {
+        self.queue.clear();
+        self.is_shut = true;
+        self.is_deaf = true;
+        self.is_closed = true;
+        self.error = Some(Errno::Econnreset);
     }
 }
 
@@ -100,9 +151,9 @@ impl Model for SockPair {
 
     ghost Value = { SocketPair };
 
-    ghost use Rattle.ep_stream.specs.Socket.{socket_of};
+    ghost use Rattle.ep_stream.specs.Socket.{pair_of};
 
-    ghost view = { λ p. record { capacity = p.first_end.queue.capacity; first_end = socket_of p.first_end; second_end = socket_of p.second_end } };
+    ghost view = { λ p. pair_of p.first_end p.second_end };
 
     ghost invariant = { λ p. p.second_end.queue.capacity ≡ p.first_end.queue.capacity };
 }
@@ -111,7 +162,7 @@ impl SockPair {
     ghost use Rattle.ep_stream.specs.Socket.{socket_of};
 
     /// A pair of open ends, each with an empty queue of at most `capacity` bytes.
-    /// All memory that later calls need is taken here, but for the bytes that a read gives.
+    /// All memory that later calls need is taken here, but for the bytes that a read or a peek gives.
     pub fn new(alloc: Global, capacity: u32) -> Result<SockPair, AllocError>
         ensures { IfOk result (λ pair. pair ≡ new_pair capacity) }
     {
@@ -121,10 +172,11 @@ impl SockPair {
         })
     }
 
-    /// read(2) of at most `n` bytes at this end, and what it raises. It gives the first bytes that wait,
-    /// and none where `n` is 0, or where none wait and the peer closed or shut its writing. EAGAIN,
-    /// which leaves the pair and raises nothing, for an `n` of 1 or more where none wait and neither
-    /// happened. An `AllocError` leaves the pair, and comes only where more than 16 bytes would be given.
+    /// read(2) of at most `n` bytes at this end, and what it raises. It gives the first bytes that wait. It gives none
+    /// if `n` is 0, or if none wait and this end shut its reading, or the peer closed or shut its writing. For an `n`
+    /// of 1 or more where none wait: an error that waits is answered and taken, else EAGAIN if more may come, which
+    /// leaves the pair and raises nothing. An `AllocError` leaves the pair, and comes only if more than 16 bytes would
+    /// be given.
     #[tactic(auto, using(crate::proofs::Peers::peer_begins))]
     pub fn read(&mut self, end: End, n: u32) -> Result<(Answer, Raised), AllocError>
         ensures ok { IfOk result (λ r. (r.0, self.new, r.1) ≡
@@ -134,6 +186,9 @@ impl SockPair {
     {
         if self.would_block_read(end, n) {
             return Ok((Answer::Refused(Errno::Eagain), raises(NONE, NONE)));
+        }
+        if self.fails_to_read(end, n) {
+            return Ok((self.fail(end), raises(NONE, NONE)));
         }
         let before = self.present(opposite(end));
         let bytes = match end {
@@ -145,9 +200,27 @@ impl SockPair {
         Ok((Answer::Bytes(bytes), raised))
     }
 
+    /// recv(2) with MSG_PEEK: as a read, but the bytes stay, and nothing is raised.
+    pub fn peek(&mut self, end: End, n: u32) -> Result<(Answer, Raised), AllocError>
+        ensures ok { IfOk result (λ r. (r.0, self.new, r.1) ≡
+            attempt (pair_read_refusals self.old end n) self.old (pair_peek self.old end n)) }
+        ensures err { OnErr result (self.new ≡ self.old) }
+        ensures inline { min n (pair_waiting self.old end) ≤ 16 → IsOk result }
+    {
+        if self.would_block_read(end, n) {
+            return Ok((Answer::Refused(Errno::Eagain), raises(NONE, NONE)));
+        }
+        if self.fails_to_read(end, n) {
+            return Ok((self.fail(end), raises(NONE, NONE)));
+        }
+        let bytes = peek_front(&self.ends(end).0.queue, n)?;
+        Ok((Answer::Bytes(bytes), raises(NONE, NONE)))
+    }
+
     /// write(2) of these bytes at this end, and what it raises. It takes as many as fit in the peer's
     /// queue, answers how many, and takes no memory. Refusals of one byte or more, which leave the pair
-    /// and raise nothing: EPIPE where this end shut its writing or the peer closed; EAGAIN where none fits.
+    /// and raise nothing: EPIPE if this end shut its writing, or the peer shut its reading or closed; EAGAIN if none
+    /// fits.
     pub fn write(&mut self, end: End, bytes: &Buffer) -> (Answer, Raised)
         ensures { (result.0, self.new, result.1) ≡
             attempt (pair_write_refusals self.old end bytes.now) self.old (pair_write self.old end bytes.now) }
@@ -155,66 +228,88 @@ impl SockPair {
         if let Some(errno) = self.write_refusal(end, bytes) {
             return (Answer::Refused(errno), raises(NONE, NONE));
         }
+        if bytes.is_empty() {
+            return (Answer::Num(0), raises(NONE, NONE));
+        }
         let count = match end {
             End::First => put_back(&mut self.second_end.queue, bytes),
             End::Second => put_back(&mut self.first_end.queue, bytes),
         };
-        let raised = raised_ends(end, NONE, when(!bytes.is_empty(), Mask::IN));
-        (Answer::Num(count as u64), raised)
+        (Answer::Num(count as u64), raised_ends(end, NONE, Mask::IN))
     }
 
-    /// shutdown(2) with SHUT_WR at this end, and what it raises: IN and RDHUP at the peer, and at both
-    /// ends HUP where it begins to hold. A second one of this end changes and raises nothing.
+    /// shutdown(2) of what `how` names at this end, answered by `Answer::Done`, and what it raises. IN and RDHUP at
+    /// this end if its reading is shut by it, and at the peer if its writing is. At both ends whatever begins to hold,
+    /// as HUP. What is shut already changes and raises nothing.
     #[tactic(auto, using(crate::proofs::Peers::own_begins, crate::proofs::Peers::peer_begins))]
-    pub fn shutdown(&mut self, end: End) -> Raised
-        ensures content { self.new ≡ (pair_shutdown self.old end).1 }
-        ensures raised { result ≡ (pair_shutdown self.old end).2 }
+    pub fn shutdown(&mut self, end: End, how: How) -> (Answer, Raised)
+        ensures { (result.0, self.new, result.1) ≡
+            attempt (pair_shut_refusals self.old end) self.old (pair_shutdown self.old end how) }
     {
         let own = self.present(end);
         let peer = self.present(opposite(end));
-        let was_shut = match end {
-            End::First => mem::replace(&mut self.first_end.is_shut, true),
-            End::Second => mem::replace(&mut self.second_end.is_shut, true),
-        };
-        if was_shut {
-            return raises(NONE, NONE);
-        }
-        let own_begun = beginning(own, self.present(end));
-        let peer_begun = beginning(peer, self.present(opposite(end)));
-        let at_peer = union(Mask::RDHUP, intersection(Mask::HUP, peer_begun));
-        raised_ends(
+        let (reading, writing) = self.shut(end, how);
+        let at_own = when(reading, END_OF_INPUT);
+        let at_peer = when(writing, END_OF_INPUT);
+        let raised = raised_ends(
             end,
-            intersection(Mask::HUP, own_begun),
-            union(Mask::IN, at_peer),
-        )
+            told_or_begun(at_own, own, self.present(end)),
+            told_or_begun(at_peer, peer, self.present(opposite(end))),
+        );
+        (Answer::Done, raised)
     }
 
     /// Notes that this end is closed for good, and gives what that raises at the peer: IN, RDHUP and
-    /// HUP, and OUT where it begins to hold.
+    /// HUP, and whatever begins to hold, as OUT. If the peer is closed already, nobody is left who could tell what
+    /// the ends were: both get one and the same content, and nothing is raised.
     #[tactic(auto, using(crate::proofs::Peers::peer_begins))]
     pub fn close_end(&mut self, end: End) -> Raised
         ensures { (self.new, result) ≡ pair_close self.old end }
     {
-        let before = self.present(opposite(end));
-        match end {
-            End::First => self.first_end.is_closed = true,
-            End::Second => self.second_end.is_closed = true,
+        if self.ends(end).1.is_closed {
+            self.first_end.end();
+            self.second_end.end();
+            return raises(NONE, NONE);
         }
-        let begun = beginning(before, self.present(opposite(end)));
-        let hang_up = union(Mask::HUP, intersection(Mask::OUT, begun));
-        raised_ends(end, NONE, union(Mask::IN, union(Mask::RDHUP, hang_up)))
+        let before = self.present(opposite(end));
+        self.note_closed(end);
+        let told = union(END_OF_INPUT, Mask::HUP);
+        let after = self.present(opposite(end));
+        raised_ends(end, NONE, told_or_begun(told, before, after))
     }
 
-    /// How many bytes a read at this end could give.
+    /// getsockopt(2) with SO_ERROR at this end: takes the error that waits there, and answers its number by
+    /// `Answer::Num`, or 0 if none waits.
+    pub fn take_error(&mut self, end: End) -> Answer
+        ensures { (result, self.new, nothing) ≡ pair_take_error self.old end }
+    {
+        match self.take(end) {
+            Some(errno) => Answer::Num(u64::from(errno.number())),
+            None => Answer::Num(0),
+        }
+    }
+
+    /// getsockname(2) and getpeername(2) at either end: no end of a socket pair has a name.
+    pub fn name(&self) -> Option<Name>
+        ensures { (end : End) (of_peer : Bool)
+            → attempt (pair_name_refusals self.now end of_peer) self.now (pair_name self.now end of_peer)
+            ≡ (Named result, self.now, nothing) }
+    {
+        let _ends = &self.first_end; // the prover learns of it what a pair is
+        None
+    }
+
+    /// How many bytes a read or a peek at this end could give.
     pub fn waiting(&self, end: End) -> usize
         ensures { result ≡ pair_waiting self.now end }
     {
         self.ends(end).0.queue.len()
     }
 
-    /// The bits that hold now at this end, as poll(2) names them: IN while bytes wait, or once the
-    /// peer closed or shut its writing; RDHUP in those last two cases; HUP once the peer closed, or both
-    /// ends shut their writing; OUT while the peer's queue isn't full, and once the peer closed.
+    /// The bits that hold now at this end, as poll(2) names them. RDHUP once nothing more comes to it: it shut its
+    /// reading, or the peer closed or shut its writing. IN then, and while bytes wait. HUP if nothing more goes from
+    /// it either: it shut its writing, or the peer closed or shut its reading. OUT while the peer's queue isn't full,
+    /// and once the peer closed. ERR while an error waits.
     pub fn present(&self, end: End) -> Mask
         ensures { result.0 ≡ pair_present self.now end }
     {
@@ -224,9 +319,10 @@ impl SockPair {
 
     /// This end and its peer.
     fn ends(&self, end: End) -> (&Socket, &Socket)
-        ensures own { socket_of result.0.now ≡ own self.now end }
-        ensures peer { socket_of result.1.now ≡ peer self.now end }
+        ensures own { socket_of (own self.now end).is_reset result.0.now ≡ own self.now end }
+        ensures peer { socket_of (peer self.now end).is_reset result.1.now ≡ peer self.now end }
         ensures capacity { result.1.now.queue.capacity ≡ self.now.capacity }
+        ensures family { self.now.family ≡ Unix }
     {
         match end {
             End::First => (&self.first_end, &self.second_end),
@@ -237,10 +333,65 @@ impl SockPair {
     /// Whether a read of `n` bytes at this end is refused with EAGAIN.
     fn would_block_read(&self, end: End, n: u32) -> bool
         ensures { result ≡
-            (nat_lt 0 n && is_empty (own self.now end).queue && not (is_over (peer self.now end))) }
+            (wants_more self.now end n && not (fails_reading self.now end)
+            && not (comes_no_more self.now.family (own self.now end) (peer self.now end))) }
     {
         let (own, peer) = self.ends(end);
-        n > 0 && own.queue.is_empty() && !peer.is_over()
+        n > 0 && own.queue.is_empty() && own.error.is_none() && !own.comes_no_more(peer)
+    }
+
+    /// Whether a read of `n` bytes at this end is answered with the error that waits there.
+    fn fails_to_read(&self, end: End, n: u32) -> bool
+        ensures { result ≡ (wants_more self.now end n && fails_reading self.now end) }
+    {
+        let own = self.ends(end).0;
+        n > 0 && own.queue.is_empty() && own.error.is_some()
+    }
+
+    /// Shuts what `how` names of this end. Whether its reading was open before and no longer is, and whether its
+    /// writing was.
+    fn shut(&mut self, end: End, how: How) -> (bool, bool)
+        ensures reading { result.0 ≡ (shuts_read how && not (own self.old end).is_deaf) }
+        ensures writing { result.1 ≡ (shuts_write how && not (own self.old end).is_shut) }
+        ensures pair { self.new ≡ pair_shut self.old end how }
+        ensures family { self.old.family ≡ Unix }
+    {
+        match end {
+            End::First => self.first_end.shut(how),
+            End::Second => self.second_end.shut(how),
+        }
+    }
+
+    /// Notes that this end is closed, while its peer isn't.
+    #[tactic(auto, using(crate::proofs::PairMarks::first_closes, crate::proofs::PairMarks::second_closes))]
+    fn note_closed(&mut self, end: End)
+        requires { (peer self.old end).is_closed ≡ false }
+        ensures pair { self.new ≡ unix_closed self.old end }
+        ensures family { self.old.family ≡ Unix }
+    {
+        match end {
+            End::First => self.first_end.is_closed = true,
+            End::Second => self.second_end.is_closed = true,
+        }
+    }
+
+    /// The error that waits at this end, which is taken.
+    fn take(&mut self, end: End) -> Option<Errno>
+        ensures error { result ≡ (own self.old end).error }
+        ensures pair { self.new ≡ without_error self.old end }
+    {
+        match end {
+            End::First => self.first_end.error.take(),
+            End::Second => self.second_end.error.take(),
+        }
+    }
+
+    /// What a call that fails with the error of this end is answered; EPIPE if none waits.
+    #[inline(always)]
+    fn fail(&mut self, end: End) -> Answer
+        ensures { (result, self.new, nothing) ≡ failed self.old end }
+    {
+        Answer::Failed(self.take(end).unwrap_or(Errno::Epipe))
     }
 
     /// The error of a write of these bytes at this end.
@@ -251,7 +402,7 @@ impl SockPair {
             return None;
         }
         let (own, peer) = self.ends(end);
-        if own.is_shut || peer.is_closed {
+        if own.goes_no_more(peer) {
             return Some(Errno::Epipe);
         }
         if peer.room() == 0 {

@@ -133,9 +133,9 @@ effect_at s d now call =
     let x = content_of s d in let e = side_of s d in
     attempt (object_refusals x e now call) x (object_effect x e now call)
 
--- how many bytes a read could give there
-abbrev pub waiting_at : Files → ℕ → ℕ
-waiting_at s d = object_waiting (content_of s d) (side_of s d)
+-- how many of the bytes that wait there a call could give
+abbrev pub waiting_at : Files → ℕ → ObjectCall → ℕ
+waiting_at s d call = object_waiting (content_of s d) (side_of s d) call
 
 -- the same under a key, and the files after it
 abbrev pub effect_under : Seen → DescId → ℕ → ObjectCall → Effect Object
@@ -190,9 +190,9 @@ thing_effect v key now call = effect_at (files_in v) (thing_number v key) now ca
 abbrev pub objects_after : Things → DescId → ℕ → ObjectCall → List (Option Object)
 objects_after v key now call = (affected (files_in v) (thing_number v key) (thing_effect v key now call)).objects
 
--- how many bytes a read could give there
-abbrev pub thing_waiting : Things → DescId → ℕ
-thing_waiting v key = waiting_at (files_in v) (thing_number v key)
+-- how many of the bytes that wait there a call could give
+abbrev pub thing_waiting : Things → DescId → ObjectCall → ℕ
+thing_waiting v key call = waiting_at (files_in v) (thing_number v key) call
 
 abbrev pub is_unused : List (Option Place) → List ℕ → List ℕ → ℕ → Bool
 is_unused ds names holds d = is_some (slice_index_or ds d None) && (count_at names d == 0 && count_at holds d == 0)

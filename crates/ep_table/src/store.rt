@@ -279,7 +279,7 @@ impl<A: Allocator> Store<A> {
         ensures objects { OnOk result
             (self.new ≡ record self.old { objects = objects_after self.old key now call.now }) }
         ensures err { OnErr result (self.new ≡ self.old) }
-        ensures inline { min (asked_of call.now) (thing_waiting self.old key) ≤ 16 → IsOk result }
+        ensures inline { min (asked_of call.now) (thing_waiting self.old key call.now) ≤ 16 → IsOk result }
     {
         let description = self.descriptions[key.0];
         let shared = &mut self.objects[description.object];

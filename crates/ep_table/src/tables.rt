@@ -624,7 +624,7 @@ impl<A: Allocator> Tables<A> {
 
     /// A call on the object of a live description, at its end: what it is answered at the moment
     /// `now`, and what it raises at the ends of the object. An `AllocError` leaves
-    /// the tables, and comes only where a read asks for more than 16 bytes and more than 16 wait.
+    /// the tables, and comes only if a read or a peek asks for more than 16 bytes and more than 16 wait.
     /// The time grows with the bytes that are moved.
     pub fn apply(
         &mut self,
@@ -639,7 +639,7 @@ impl<A: Allocator> Tables<A> {
             (self.new ≡ record self.old { files = files_after self.old desc now call.now }) }
         ensures err { OnErr result (self.new ≡ self.old) }
         ensures inline { min (asked_of call.now)
-            (waiting_at self.old.files (number_of self.old desc)) ≤ 16 → IsOk result }
+            (waiting_at self.old.files (number_of self.old desc) call.now) ≤ 16 → IsOk result }
     {
         self.store.apply(desc, now, call)
     }

@@ -1,10 +1,11 @@
 -- Keys and their numbers, and members that are put into an object one after another.
-use Rattle.std.proofs.Common.{List, [], None, Option, Some, Bool, ap, arith, bytes_eq, false, get_or, if◌then◌else◌, length, refl, sym, take, true, ℕ, ◌+◌, ◌++◌, ◌-◌, ◌<◌, ◌∙◌, ◌∷◌, ◌≡◌}
+use Rattle.std.proofs.Common.{List, [], None, Option, Some, Bool, ap, arith, bytes_eq, false, get_or, if◌then◌else◌, length, refl, suc, sym, take, true, zero, ℕ, ◌||◌, ◌+◌, ◌++◌, ◌-◌, ◌<◌, ◌∙◌, ◌∷◌, ◌≡◌}
 use Rattle.std.specs.Cmp.Lexicographic.{slice_cmp}
 use Rattle.std.specs.Ordering.{match_ordering, nat_cmp}
 use Rattle.std.specs.declared.cmp.Ordering.{Ordering}
 use Rattle.std.specs.declared.cmp.Ordering.TheVariants.{Equal, Greater, Less}
 use Rattle.std.proofs.lemmas.List.{take_more}
+use Rattle.std.proofs.lemmas.Slice.Eq.{bytes_eq-Decides}
 use Rattle.json.specs.Json.{Json, Parse, after_end_array, items, members, parse_map, value}
 use Rattle.json.specs.Token.{Token}
 use Rattle.json.proofs.Grammar.{value-begin_array, value-begin_object}
@@ -27,7 +28,8 @@ use Rattle.ep_text.specs.Source.{found_data, put_all}
 abbrev keys : List Key
 keys =
     key.Op ∷ key.By ∷ key.Pid ∷ key.Cloexec ∷ key.Init ∷ key.Sem ∷ key.Clock ∷ key.Ep ∷ key.Fd ∷ key.Act ∷ key.Mask ∷
-    key.Data ∷ key.Max ∷ key.Timeout ∷ key.N ∷ key.Hex ∷ key.Fill ∷ key.Value ∷ key.Interval ∷ key.Abs ∷ key.To ∷ []
+    key.Data ∷ key.Max ∷ key.Timeout ∷ key.N ∷ key.Hex ∷ key.Fill ∷ key.Value ∷ key.Interval ∷ key.Abs ∷ key.To ∷
+    key.How ∷ key.Family ∷ key.Space ∷ key.Name ∷ key.Backlog ∷ []
 
 abbrev number_named : List Key → List ℕ → ℕ
 number_named [] name = 0
@@ -55,6 +57,11 @@ key_at key.Value = refl
 key_at key.Interval = refl
 key_at key.Abs = refl
 key_at key.To = refl
+key_at key.How = refl
+key_at key.Family = refl
+key_at key.Space = refl
+key_at key.Name = refl
+key_at key.Backlog = refl
 
 named_number : (k : Key) → number_named keys (key_name k) ≡ key_number k
 named_number key.Op = refl
@@ -78,12 +85,29 @@ named_number key.Value = refl
 named_number key.Interval = refl
 named_number key.Abs = refl
 named_number key.To = refl
+named_number key.How = refl
+named_number key.Family = refl
+named_number key.Space = refl
+named_number key.Name = refl
+named_number key.Backlog = refl
+
+or_true : (b : Bool) → (b || true) ≡ true
+or_true true = refl
+or_true false = refl
 
 pub same_key : (k l : Key) → key_number k ≡ key_number l → k ≡ l
 same_key k l e = sym (key_at k) ∙ ap (λ n. get_or keys n key.Op) e ∙ key_at l
 
 same_number : (k l : Key) → key_name k ≡ key_name l → key_number k ≡ key_number l
 same_number k l e = sym (named_number k) ∙ ap (number_named keys) e ∙ named_number l
+
+-- a name is among keys of which one has its number
+pub among_numbered : (ks : List Key) (i : ℕ) (k d : Key) → i < length ks → key_number (get_or ks i d) ≡ key_number k → is_among ks (key_name k) ≡ true
+among_numbered [] i k d lt e = absurd (omega (arith, lt))
+among_numbered (l ∷ ks) zero k d lt e =
+    ap (λ b. b || is_among ks (key_name k)) ((bytes_eq-Decides (key_name l) (key_name k)).1 (ap key_name (same_key l k e)))
+among_numbered (l ∷ ks) (suc i) k d lt e =
+    ap (λ b. bytes_eq (key_name l) (key_name k) || b) (among_numbered ks i k d (omega (arith, lt)) e) ∙ or_true (bytes_eq (key_name l) (key_name k))
 
 -- ---- members
 

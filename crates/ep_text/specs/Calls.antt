@@ -4,7 +4,7 @@ use Rattle.serde_json.specs.Data.{Data}
 use Rattle.ep_base.specs.declared.call.Call.{Call}
 use Rattle.ep_base.specs.declared.call.Call.TheVariants.{Close, Dup, Dup2, EpollCreate, EpollCtl, EpollWait}
 use Rattle.ep_base.specs.declared.call.Call.TheVariants.{EventFd, Exec, Exit, Fork, GetTime, Pipe, Plain}
-use Rattle.ep_base.specs.declared.call.Call.TheVariants.{Read, SetTime, Shutdown, SocketPair, TimerFd, Write}
+use Rattle.ep_base.specs.declared.call.Call.TheVariants.{Read, SetTime, SocketPair, TimerFd, Write}
 use Rattle.ep_base.specs.declared.ids.Fd.{Fd}
 use Rattle.ep_text.specs.declared.key.Key.TheVariants as key
 use Rattle.ep_text.specs.declared.reason.Reason.{Reason}
@@ -76,9 +76,6 @@ abbrev pub at_descriptor : (Fd → Call) → Data → Result Call Reason
 at_descriptor make d = do
   fd ← required signed32 key.Fd d
   Ok (make (record { 0 = fd }))
-
-abbrev pub shutdown_call : Data → Result Call Reason
-shutdown_call = at_descriptor (λ fd. Shutdown fd)
 
 abbrev pub gettime_call : Data → Result Call Reason
 gettime_call = at_descriptor (λ fd. GetTime fd)

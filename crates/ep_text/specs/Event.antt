@@ -20,8 +20,10 @@ use Rattle.ep_text.specs.declared.reason.Reason.{Reason}
 use Rattle.ep_text.specs.declared.reason.Reason.TheVariants.{NoObject, UnknownOp}
 use Rattle.ep_text.specs.Calls.{close_call, ctl_call, dup2_call, dup_call, epoll_call, eventfd_call}
 use Rattle.ep_text.specs.Calls.{exec_call, exit_call, fork_call, gettime_call, pipe_call, plain_call}
-use Rattle.ep_text.specs.Calls.{read_call, settime_call, shutdown_call, socketpair_call, timerfd_call}
+use Rattle.ep_text.specs.Calls.{read_call, settime_call, socketpair_call, timerfd_call}
 use Rattle.ep_text.specs.Calls.{wait_call, write_call}
+use Rattle.ep_text.specs.SocketCalls.{accept_call, bind_call, connect_call, listen_call, peek_call, peername_call}
+use Rattle.ep_text.specs.SocketCalls.{shutdown_call, sockerr_call, socket_call, sockname_call}
 use Rattle.ep_text.specs.declared.line.Line.{Line}
 use Rattle.ep_text.specs.declared.line.Line.TheVariants.{Bad, Command as LineCommand, Header}
 use Rattle.ep_version.specs.declared.version.Version.{Version}
@@ -83,7 +85,7 @@ abbrev pub write_operation : Operation
 write_operation = call_operation op.Write (codes "write") (key.Fd ∷ key.Hex ∷ key.Fill ∷ []) write_call
 
 abbrev pub shutdown_operation : Operation
-shutdown_operation = call_operation op.Shutdown (codes "shutdown") (key.Fd ∷ []) shutdown_call
+shutdown_operation = call_operation op.Shutdown (codes "shutdown") (key.Fd ∷ key.How ∷ []) shutdown_call
 
 abbrev pub gettime_operation : Operation
 gettime_operation = call_operation op.GetTime (codes "gettime") (key.Fd ∷ []) gettime_call
@@ -109,11 +111,40 @@ exec_operation = call_operation op.Exec (codes "exec") [] exec_call
 abbrev pub exit_operation : Operation
 exit_operation = call_operation op.Exit (codes "exit") [] exit_call
 
+abbrev pub socket_operation : Operation
+socket_operation = call_operation op.Socket (codes "socket") (key.Family ∷ key.Cloexec ∷ []) socket_call
+
+abbrev pub bind_operation : Operation
+bind_operation = call_operation op.Bind (codes "bind") (key.Fd ∷ key.Space ∷ key.Name ∷ []) bind_call
+
+abbrev pub listen_operation : Operation
+listen_operation = call_operation op.Listen (codes "listen") (key.Fd ∷ key.Backlog ∷ []) listen_call
+
+abbrev pub connect_operation : Operation
+connect_operation = call_operation op.Connect (codes "connect") (key.Fd ∷ key.Space ∷ key.Name ∷ []) connect_call
+
+abbrev pub accept_operation : Operation
+accept_operation = call_operation op.Accept (codes "accept") (key.Fd ∷ key.Cloexec ∷ []) accept_call
+
+abbrev pub peek_operation : Operation
+peek_operation = call_operation op.Peek (codes "peek") (key.Fd ∷ key.N ∷ []) peek_call
+
+abbrev pub sockname_operation : Operation
+sockname_operation = call_operation op.SockName (codes "sockname") (key.Fd ∷ []) sockname_call
+
+abbrev pub peername_operation : Operation
+peername_operation = call_operation op.PeerName (codes "peername") (key.Fd ∷ []) peername_call
+
+abbrev pub sockerr_operation : Operation
+sockerr_operation = call_operation op.SockErr (codes "sockerr") (key.Fd ∷ []) sockerr_call
+
 abbrev pub call_operations : List Operation
 call_operations =
     pipe_operation ∷ socketpair_operation ∷ plain_operation ∷ epoll_operation ∷ eventfd_operation ∷ timerfd_operation ∷
     ctl_operation ∷ wait_operation ∷ read_operation ∷ write_operation ∷ shutdown_operation ∷ gettime_operation ∷ settime_operation ∷
-    dup_operation ∷ dup2_operation ∷ close_operation ∷ fork_operation ∷ exec_operation ∷ exit_operation ∷ []
+    dup_operation ∷ dup2_operation ∷ close_operation ∷ fork_operation ∷ exec_operation ∷ exit_operation ∷
+    socket_operation ∷ bind_operation ∷ listen_operation ∷ connect_operation ∷ accept_operation ∷ peek_operation ∷
+    sockname_operation ∷ peername_operation ∷ sockerr_operation ∷ []
 
 -- ---- what is no call
 

@@ -25,6 +25,11 @@ key_name key.Value = codes "value"
 key_name key.Interval = codes "interval"
 key_name key.Abs = codes "abs"
 key_name key.To = codes "to"
+key_name key.How = codes "how"
+key_name key.Family = codes "family"
+key_name key.Space = codes "space"
+key_name key.Name = codes "name"
+key_name key.Backlog = codes "backlog"
 
 -- its place among the keys
 abbrev pub key_number : Key → ℕ
@@ -49,3 +54,8 @@ key_number key.Value = 17
 key_number key.Interval = 18
 key_number key.Abs = 19
 key_number key.To = 20
+key_number key.How = 21
+key_number key.Family = 22
+key_number key.Space = 23
+key_number key.Name = 24
+key_number key.Backlog = 25

@@ -8,7 +8,9 @@ pub mod Flat
 pub mod Keys
 pub mod Mask
 pub mod Bytes
+pub mod Sockets
 pub mod Calls
+pub mod SocketCalls
 pub mod Event
 pub mod Plain
 pub mod Ops

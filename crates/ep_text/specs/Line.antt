@@ -1,11 +1,12 @@
 -- The line that tells an answer, with the byte 10 that ends it.
 use Rattle.std.specs.Fmt.{signed_decimal}
-use Rattle.std.specs.Prelude.{Bool, List, [], codes, decimal, false, if◌then◌else◌, true, ℕ, ◌++◌, ◌∷◌}
+use Rattle.std.specs.Prelude.{Bool, List, None, Some, [], codes, decimal, false, if◌then◌else◌, true, ℕ, ◌++◌, ◌∷◌}
 use Rattle.hex.specs.Hex.{encode_lower}
 use Rattle.ep_base.specs.declared.answer.Answer.{Answer}
-use Rattle.ep_base.specs.declared.answer.Answer.TheVariants.{Bytes, Done, Events, Num, Parked, Refused, Still, Time, Two}
+use Rattle.ep_base.specs.declared.answer.Answer.TheVariants.{Bytes, Connecting, Done, Events, Failed, Named, Num, Parked, Refused, Still, Time, Two}
 use Rattle.ep_base.specs.declared.answer.Report.{Report}
 use Rattle.ep_base.specs.Errno.{errno_name, errno_number}
+use Rattle.ep_text.specs.Sockets.{space_text}
 use Rattle.ep_version.specs.declared.version.Version.{Version}
 use Rattle.ep_version.specs.declared.version.Version.TheVariants.{V1, V2}
 use Rattle.ep_version.specs.Version.{shown_in}
@@ -28,6 +29,10 @@ line_of version (Events reports) = codes "{\"events\":[" ++ reports_text true re
 line_of version (Time value interval) = codes "{\"time\":[" ++ decimal (shown_in version value) ++ codes "," ++ decimal (shown_in version interval) ++ codes "]}\n"
 line_of version Parked = codes "{\"parked\":true}\n"
 line_of version Still = codes "{\"still\":true}\n"
+line_of version Connecting = codes "{\"connecting\":true}\n"
+line_of version (Failed errno) = codes "{\"failed\":[" ++ decimal (errno_number errno) ++ codes ",\"" ++ errno_name errno ++ codes "\"]}\n"
+line_of version (Named None) = codes "{\"name\":null}\n"
+line_of version (Named (Some name)) = codes "{\"name\":[\"" ++ space_text name.space ++ codes "\"," ++ decimal name.number ++ codes "]}\n"
 line_of version (Refused errno) = codes "{\"err\":[" ++ decimal (errno_number errno) ++ codes ",\"" ++ errno_name errno ++ codes "\"]}\n"
 
 -- of a header

@@ -29,6 +29,10 @@ is_of_kind kinds.Mask d = is_some (as_str d) || is_some (as_number d)
 is_of_kind kinds.Operation d = is_some (as_str d) || is_some (as_number d)
 is_of_kind kinds.Hex d = is_some (as_str d)
 is_of_kind kinds.Fill d = is_some (as_array d)
+is_of_kind kinds.How d = is_some (as_str d)
+is_of_kind kinds.Family d = is_some (as_str d)
+is_of_kind kinds.Space d = is_some (as_str d)
+is_of_kind kinds.Port d = is_some (as_number d)
 
 abbrev pub unfit : Key → ValueKind → Data → Reason
 unfit key kind d = if is_of_kind kind d then OutOfRange key kind else WrongKind key kind

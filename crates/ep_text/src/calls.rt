@@ -2,7 +2,7 @@
 ghost use Rattle.std.specs.Prelude.{◌≡◌, IfOk};
 ghost use Rattle.ep_text.specs.Calls.{close_call, ctl_call, dup2_call, dup_call, epoll_call, eventfd_call};
 ghost use Rattle.ep_text.specs.Calls.{gettime_call, pipe_call, plain_call, read_call, settime_call};
-ghost use Rattle.ep_text.specs.Calls.{shutdown_call, socketpair_call, timerfd_call, wait_call, write_call};
+ghost use Rattle.ep_text.specs.Calls.{socketpair_call, timerfd_call, wait_call, write_call};
 ghost use Rattle.ep_text.specs.Ops.{call_of};
 ghost use Rattle.ep_text.specs.Source.{source_data};
 
@@ -12,6 +12,7 @@ use crate::key::Key;
 use crate::masks::{mask_or_empty, required_operation};
 use crate::op::CallOp;
 use crate::reason::Reason;
+use crate::sockets::{call_of_socket, shutdown_call};
 use crate::source::Source;
 use ep_base::{Call, Fd, Span, Timeout};
 use std::alloc::{AllocError, Global};
@@ -116,13 +117,6 @@ fn write_call(alloc: Global, value: &Source<'_>) -> Result<Result<Call, Reason>,
     }
 }
 
-fn shutdown_call(value: &Source<'_>) -> Result<Call, Reason>
-    ensures { result ≡ shutdown_call (source_data value.now) }
-{
-    let fd = Fd(required_i32(value, Key::Fd)?);
-    Ok(Call::Shutdown { fd })
-}
-
 fn gettime_call(value: &Source<'_>) -> Result<Call, Reason>
     ensures { result ≡ gettime_call (source_data value.now) }
 {
@@ -195,5 +189,14 @@ pub(crate) fn call_of(
         CallOp::Fork => Ok(Ok(Call::Fork)),
         CallOp::Exec => Ok(Ok(Call::Exec)),
         CallOp::Exit => Ok(Ok(Call::Exit)),
+        CallOp::Socket
+        | CallOp::Bind
+        | CallOp::Listen
+        | CallOp::Connect
+        | CallOp::Accept
+        | CallOp::Peek
+        | CallOp::SockName
+        | CallOp::PeerName
+        | CallOp::SockErr => Ok(call_of_socket(op, value)),
     }
 }

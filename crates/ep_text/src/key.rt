@@ -26,6 +26,11 @@ pub enum Key {
     Interval,
     Abs,
     To,
+    How,
+    Family,
+    Space,
+    Name,
+    Backlog,
 }
 
 impl Key {
@@ -55,6 +60,11 @@ impl Key {
             Key::Interval => "interval",
             Key::Abs => "abs",
             Key::To => "to",
+            Key::How => "how",
+            Key::Family => "family",
+            Key::Space => "space",
+            Key::Name => "name",
+            Key::Backlog => "backlog",
         }
     }
 
@@ -84,6 +94,11 @@ impl Key {
             "interval" => Some(Key::Interval),
             "abs" => Some(Key::Abs),
             "to" => Some(Key::To),
+            "how" => Some(Key::How),
+            "family" => Some(Key::Family),
+            "space" => Some(Key::Space),
+            "name" => Some(Key::Name),
+            "backlog" => Some(Key::Backlog),
             _ => None,
         }
     }
@@ -114,6 +129,11 @@ impl Key {
             Key::Interval => 18,
             Key::Abs => 19,
             Key::To => 20,
+            Key::How => 21,
+            Key::Family => 22,
+            Key::Space => 23,
+            Key::Name => 24,
+            Key::Backlog => 25,
         }
     }
 }

@@ -19,6 +19,7 @@ mod plain;
 mod print;
 mod read;
 mod reason;
+mod sockets;
 mod source;
 mod value_kind;
 

@@ -27,6 +27,15 @@ pub enum CallOp {
     Fork,
     Exec,
     Exit,
+    Socket,
+    Bind,
+    Listen,
+    Connect,
+    Accept,
+    Peek,
+    SockName,
+    PeerName,
+    SockErr,
 }
 
 /// What the `op` of a line may name.
@@ -61,6 +70,15 @@ impl CallOp {
             "fork" => Some(CallOp::Fork),
             "exec" => Some(CallOp::Exec),
             "exit" => Some(CallOp::Exit),
+            "socket" => Some(CallOp::Socket),
+            "bind" => Some(CallOp::Bind),
+            "listen" => Some(CallOp::Listen),
+            "connect" => Some(CallOp::Connect),
+            "accept" => Some(CallOp::Accept),
+            "peek" => Some(CallOp::Peek),
+            "sockname" => Some(CallOp::SockName),
+            "peername" => Some(CallOp::PeerName),
+            "sockerr" => Some(CallOp::SockErr),
             _ => None,
         }
     }
@@ -77,14 +95,18 @@ impl CallOp {
             CallOp::TimerFd => &[Key::Clock, Key::Cloexec, Key::Pid],
             CallOp::Ctl => &[Key::Ep, Key::Fd, Key::Act, Key::Mask, Key::Data, Key::Pid],
             CallOp::Wait => &[Key::Ep, Key::Max, Key::Timeout, Key::Pid],
-            CallOp::Read => &[Key::Fd, Key::N, Key::Pid],
+            CallOp::Read | CallOp::Peek => &[Key::Fd, Key::N, Key::Pid],
             CallOp::Write => &[Key::Fd, Key::Hex, Key::Fill, Key::Pid],
-            CallOp::Shutdown | CallOp::GetTime | CallOp::Dup | CallOp::Close => {
-                &[Key::Fd, Key::Pid]
-            }
+            CallOp::Shutdown => &[Key::Fd, Key::How, Key::Pid],
+            CallOp::GetTime | CallOp::Dup | CallOp::Close => &[Key::Fd, Key::Pid],
+            CallOp::SockName | CallOp::PeerName | CallOp::SockErr => &[Key::Fd, Key::Pid],
             CallOp::Dup2 => &[Key::Fd, Key::To, Key::Pid],
             CallOp::Fork | CallOp::Exec | CallOp::Exit => &[Key::Pid],
             CallOp::SetTime => &[Key::Fd, Key::Value, Key::Interval, Key::Abs, Key::Pid],
+            CallOp::Socket => &[Key::Family, Key::Cloexec, Key::Pid],
+            CallOp::Bind | CallOp::Connect => &[Key::Fd, Key::Space, Key::Name, Key::Pid],
+            CallOp::Listen => &[Key::Fd, Key::Backlog, Key::Pid],
+            CallOp::Accept => &[Key::Fd, Key::Cloexec, Key::Pid],
         }
     }
 }

@@ -4,8 +4,10 @@ ghost use Rattle.std.specs.Prelude.{◌≡◌, ◌++◌, IfOk, OnOk, codes, deci
 ghost use Rattle.hex.specs.Hex.{encode_lower};
 ghost use Rattle.ep_base.specs.Errno.{errno_name, errno_number};
 ghost use Rattle.ep_text.specs.Line.{bad_line, header_line, line_of, reports_text};
+ghost use Rattle.ep_text.specs.Sockets.{space_text};
 
-use ep_base::{Answer, Errno, Report};
+use crate::sockets::space_word;
+use ep_base::{Answer, Errno, Name, Report};
 use ep_version::{Version, shown_in};
 use std::alloc::{AllocError, Global};
 
@@ -76,6 +78,40 @@ fn push_errno(text: &mut String, errno: Errno) -> Result<(), AllocError>
     Ok(())
 }
 
+/// Puts an error behind the bracket of its list, and ends the line.
+fn push_number_and_name(text: &mut String, errno: Errno) -> Result<(), AllocError>
+    ensures { OnOk result (string_bytes text.new
+        ≡ string_bytes text.old ++ (decimal (errno_number errno) ++ codes ",\"" ++ errno_name errno ++ codes "\"]}\n")) }
+{
+    let number = errno.number();
+    let name = errno.name();
+    write!(text, "{number},\"{name}\"]}}\n")?;
+    Ok(())
+}
+
+#[cold]
+#[inline(never)]
+fn push_failed(text: &mut String, errno: Errno) -> Result<(), AllocError>
+    ensures { OnOk result (string_bytes text.new
+        ≡ string_bytes text.old ++ (codes "{\"failed\":[" ++ decimal (errno_number errno) ++ codes ",\"" ++ errno_name errno ++ codes "\"]}\n")) }
+{
+    text.push_str("{\"failed\":[")?;
+    push_number_and_name(text, errno)?;
+    Ok(())
+}
+
+#[cold]
+#[inline(never)]
+fn push_name(text: &mut String, name: Name) -> Result<(), AllocError>
+    ensures { OnOk result (string_bytes text.new
+        ≡ string_bytes text.old ++ (codes "{\"name\":[\"" ++ space_text name.space ++ codes "\"," ++ decimal name.number ++ codes "]}\n")) }
+{
+    let space = space_word(name.space);
+    let number = name.number;
+    write!(text, "{{\"name\":[\"{space}\",{number}]}}\n")?;
+    Ok(())
+}
+
 /// Puts the line of an answer, with the byte 10 that ends it, behind the text. In version 1 the
 /// times of a timer are milliseconds, rounded up; in version 2 they are microseconds. After an
 /// `AllocError` the text may have a part of the line.
@@ -104,6 +140,10 @@ pub fn push_answer(
         }
         Answer::Parked => text.push_str("{\"parked\":true}\n"),
         Answer::Still => text.push_str("{\"still\":true}\n"),
+        Answer::Connecting => text.push_str("{\"connecting\":true}\n"),
+        Answer::Failed(errno) => push_failed(text, *errno),
+        Answer::Named(None) => text.push_str("{\"name\":null}\n"),
+        Answer::Named(Some(name)) => push_name(text, *name),
         Answer::Refused(errno) => push_errno(text, *errno),
     }
 }

@@ -28,6 +28,14 @@ pub enum ValueKind {
     Hex,
     /// A list of a byte and a count, 0 to 1048576.
     Fill,
+    /// The text `rd`, `wr` or `rdwr`.
+    How,
+    /// The text `tcp` or `unix`.
+    Family,
+    /// The text `v4`, `v6` or `local`.
+    Space,
+    /// A whole number from 0 to 65535.
+    Port,
 }
 
 impl ValueKind {
@@ -37,11 +45,13 @@ impl ValueKind {
     {
         match self {
             ValueKind::Text | ValueKind::Hex => value.is_string(),
+            ValueKind::How | ValueKind::Family | ValueKind::Space => value.is_string(),
             ValueKind::Truth => value.is_boolean(),
             ValueKind::Signed32
             | ValueKind::Signed64
             | ValueKind::Unsigned32
-            | ValueKind::Unsigned64 => value.is_number(),
+            | ValueKind::Unsigned64
+            | ValueKind::Port => value.is_number(),
             ValueKind::Mask | ValueKind::Operation => value.is_string() || value.is_number(),
             ValueKind::Fill => value.is_array(),
         }
@@ -66,6 +76,10 @@ impl ValueKind {
             }
             ValueKind::Hex => "a text of an even number of hexadecimal digits",
             ValueKind::Fill => "a list of a byte, 0 to 255, and a count, 0 to 1048576",
+            ValueKind::How => "\"rd\", \"wr\" or \"rdwr\"",
+            ValueKind::Family => "\"tcp\" or \"unix\"",
+            ValueKind::Space => "\"v4\", \"v6\" or \"local\"",
+            ValueKind::Port => "a whole number from 0 to 65535",
         }
     }
 }

@@ -1,7 +1,9 @@
-use Rattle.std.proofs.Common.{◌≡◌, ◌∙◌, IsSome, Option, ap, subst, sym, ℕ}
+use Rattle.std.proofs.Common.{◌≡◌, ◌∙◌, IsSome, Option, ap, false, subst, sym, ℕ}
 use Rattle.std.proofs.lemmas.Result.{IfOk-weaker}
 use Rattle.ep_calls.specs.Reply.{IsSettled}
+use Rattle.ep_base.specs.declared.answer.Answer.{Answer}
 use Rattle.ep_base.specs.declared.ids.DescId.{DescId}
+use Rattle.ep_calls.specs.Acts.{is_no_memory}
 use Rattle.ep_base.specs.declared.ids.Fd.{Fd}
 use Rattle.ep_base.specs.declared.object.Raised.{Raised}
 use Rattle.ep_calls.specs.Does.{DoesCall}
@@ -11,6 +13,7 @@ use Rattle.ep_calls.specs.Parts.{AreCoherent, Parts}
 use Rattle.ep_calls.specs.declared.outcome.Outcome.{Outcome}
 use Rattle.ep_calls.specs.declared.raising.Raising.TheVariants.{Object as AtObject}
 use Rattle.ep_calls.proofs.ObjectCallLemmas.{fits_settled}
+use Rattle.ep_object.proofs.RealLemmas.{answer_real}
 use Rattle.ep_calls.proofs.ObjectLemmas.{applied_calls, applied_coherent, applied_does}
 use Rattle.ep_machine.specs.Files.{side_of, under}
 use Rattle.ep_machine.specs.Objects.{ObjectCall, object_call}
@@ -23,6 +26,13 @@ settled-requires-clause-settled c =
     let d = number_of v c.in-Some-lookup.desc in
     subst IsSettled (sym c.in_ok-answer.ensures.answer)
     (fits_settled (content_of v.files d) (side_of v.files d) c.self.inside.clock c.in-Some.asked c.if-is_long.ensures)
+
+pub settled-requires-clause-real : goal.settled-requires-clause-real
+settled-requires-clause-real c =
+    let v = c.self.inside.tables in
+    let d = number_of v c.in-Some-lookup.desc in
+    subst (λ (a : Answer). is_no_memory a ≡ false) (sym c.in_ok-answer.ensures.answer)
+    (answer_real (content_of v.files d) (side_of v.files d) c.self.inside.clock c.in-Some.asked)
 
 pub invariant_of-self-2 : goal.invariant_of-self-2
 invariant_of-self-2 c =

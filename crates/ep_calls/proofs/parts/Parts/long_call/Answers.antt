@@ -1,10 +1,12 @@
-use Rattle.std.proofs.Common.{IsSome, subst, sym}
+use Rattle.std.proofs.Common.{◌≡◌, IsSome, false, subst, sym}
 use Rattle.ep_base.specs.declared.answer.Answer.{Answer}
 use Rattle.ep_machine.specs.Files.{side_of}
 use Rattle.ep_calls.specs.ObjectCall.{FitsRoom}
 use Rattle.ep_calls.specs.Parts.{Parts}
 use Rattle.ep_calls.proofs.ObjectCallLemmas.{fits}
 use Rattle.ep_calls.proofs.ObjectLemmas.{applied_coherent}
+use Rattle.ep_object.proofs.RealLemmas.{answer_real}
+use Rattle.ep_calls.specs.Acts.{is_no_memory}
 use Rattle.ep_table.specs.Value.{content_of, number_of, number_under}
 use Rattle.ep_calls.proofs.parts.Parts.long_call.Goals as goal
 
@@ -23,6 +25,13 @@ outcome_of-requires-clause-more_fits c wanted =
     let more = c.in_ok-rooms.rooms.more in
     subst (λ (a : Answer). FitsRoom a more) (sym c.in_ok-answer.ensures.answer)
     (fits (content_of v.files d) (side_of v.files d) c.self.inside.clock c.args.asked.now more c.in_ok-rooms.ensures.more_inline (c.in_ok-rooms.ensures.more wanted))
+
+pub outcome_of-requires-clause-real : goal.outcome_of-requires-clause-real
+outcome_of-requires-clause-real c =
+    let v = c.self.inside.tables in
+    let d = number_of v c.args.desc in
+    subst (λ (a : Answer). is_no_memory a ≡ false) (sym c.in_ok-answer.ensures.answer)
+    (answer_real (content_of v.files d) (side_of v.files d) c.self.inside.clock c.args.asked.now)
 
 pub invariant_of-self-2 : goal.invariant_of-self-2
 invariant_of-self-2 c =

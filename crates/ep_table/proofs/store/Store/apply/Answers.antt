@@ -65,5 +65,6 @@ returns-clause-inline g c =
     let s = c.index_mut-shared.result.now in
     let o = object_found c.self.inside v c.self.invariant c.self.view_is c.args.key d c.index-description.ensures s c.index_mut-shared.ensures.value in
     let e = side_is c.self.inside v c.self.invariant c.self.view_is c.args.key d c.index-description.ensures in
-    let w : object_waiting s.object d.end ≡ waiting_at (files_in v) (thing_number v c.args.key) = λ i. object_waiting (ap unwrapped o i) (sym e i) in
-    λ h. c.apply.ensures.inline (subst (λ (n : ℕ). min (asked_of c.args.call.now) n ≤ 16) (sym w) h)
+    let call = c.args.call.now in
+    let w : object_waiting s.object d.end call ≡ waiting_at (files_in v) (thing_number v c.args.key) call = λ i. object_waiting (ap unwrapped o i) (sym e i) call in
+    λ h. c.apply.ensures.inline (subst (λ (n : ℕ). min (asked_of call) n ≤ 16) (sym w) h)

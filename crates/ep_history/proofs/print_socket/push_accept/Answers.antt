@@ -1,0 +1,7 @@
+use Rattle.std.proofs.Common.{append_assoc}
+use Rattle.ep_history.proofs.CallTextLemmas.{accept_text}
+use Rattle.ep_history.proofs.print_socket.push_accept.Goals as goal
+
+pub returns-clause-text : goal.returns-clause-text
+returns-clause-text c =
+    rw (c.in_ok-extend_from_slice.ensures.items, c.in_ok-push_descriptor.ensures, c.in_ok-push_flag.ensures, accept_text c.args.fd c.args.cloexec) (simp append_assoc)

@@ -1,0 +1,104 @@
+-- No call on an object is answered with want of memory.
+use Rattle.std.proofs.Common.{◌≡◌, ◌∷◌, [], ℕ, Bool, List, false, refl, true}
+use Rattle.std.specs.Prelude.{if◌then◌else◌, ◌&&◌}
+use Rattle.ep_base.specs.Answer.{is_no_memory}
+use Rattle.ep_base.specs.declared.answer.Answer.TheVariants.{Refused}
+use Rattle.ep_base.specs.declared.errno.Errno.{Errno}
+use Rattle.ep_base.specs.declared.object.End.{End}
+use Rattle.ep_base.specs.declared.object.End.TheVariants.{First, Second}
+use Rattle.ep_base.specs.declared.socket.How.{How}
+use Rattle.ep_machine.specs.Effect.{Effect, attempt, first, unless}
+use Rattle.ep_machine.specs.Objects.{Object, ObjectCall, asks_name, asks_time, counter, gettime, instance, name_of, object_effect, object_refusals, pair, peek, peeks, pipe, plain, read, read_refusals, reads, sets_time, settime, shutdown, shuts_down, take_error, takes_error, timer, write, write_refusals, writes}
+use Rattle.ep_machine.specs.Sockets.{SocketPair, failed, fails_reading, wants_more}
+use Rattle.ep_object.proofs.AnswerLemmas.{by_write}
+
+-- none of these errors is that
+abbrev AreReal : List (Bool × Errno) → Type 0
+AreReal [] = Unit {0}
+AreReal ((b, e) ∷ rest) = (is_no_memory (Refused e) ≡ false) × AreReal rest
+
+real_unless : (tests : List (Bool × Errno)) (x : Object) (f : Effect Object) → AreReal tests → is_no_memory f.0 ≡ false → is_no_memory (unless (first tests) x f).0 ≡ false
+real_unless [] x f all h = h
+real_unless ((true, e) ∷ rest) x f all h = all.0
+real_unless ((false, e) ∷ rest) x f all h = real_unless rest x f all.1 h
+
+read_refusals_real : (x : Object) (e : End) (n now : ℕ) → AreReal (read_refusals x e n now)
+read_refusals_real plain e n now = tt
+read_refusals_real (pipe p) First n now = (refl, tt)
+read_refusals_real (pipe p) Second n now = (refl, tt)
+read_refusals_real (pair p) e n now = (refl, tt)
+read_refusals_real (counter c) e n now = (refl, (refl, tt))
+read_refusals_real (timer t) e n now = (refl, (refl, tt))
+read_refusals_real instance e n now = (refl, tt)
+
+write_refusals_real : (x : Object) (e : End) (bytes : List ℕ) → AreReal (write_refusals x e bytes)
+write_refusals_real plain e bytes = tt
+write_refusals_real (pipe p) First bytes = (refl, tt)
+write_refusals_real (pipe p) Second [] = tt
+write_refusals_real (pipe p) Second (b ∷ bs) = (refl, (refl, tt))
+write_refusals_real (pair p) e [] = tt
+write_refusals_real (pair p) e (b ∷ bs) = (refl, (refl, tt))
+write_refusals_real (counter c) e bytes = (refl, (refl, (refl, tt)))
+write_refusals_real (timer t) e bytes = (refl, tt)
+write_refusals_real instance e bytes = (refl, tt)
+
+refusals_real : (x : Object) (e : End) (now : ℕ) (asked : ObjectCall) → AreReal (object_refusals x e now asked)
+refusals_real x e now (reads n) = read_refusals_real x e n now
+refusals_real x e now (writes bytes) = write_refusals_real x e bytes
+refusals_real x e now (peeks n) = (refl, read_refusals_real x e n now)
+refusals_real (pair p) e now (shuts_down how) = (refl, (refl, tt))
+refusals_real x e now (shuts_down how) = (refl, tt)
+refusals_real x e now takes_error = (refl, tt)
+refusals_real (pair p) e now (asks_name of_peer) = (refl, (refl, tt))
+refusals_real x e now (asks_name of_peer) = (refl, tt)
+refusals_real x e now (sets_time absolute value interval) = (refl, (refl, tt))
+refusals_real x e now asks_time = (refl, tt)
+
+-- What isn't refused.
+by_if : (b : Bool) (f g : Effect SocketPair) → is_no_memory f.0 ≡ false → is_no_memory g.0 ≡ false → is_no_memory (if b then f else g).0 ≡ false
+by_if true f g h i = h
+by_if false f g h i = i
+
+read_real : (x : Object) (e : End) (n now : ℕ) → is_no_memory (read x e n now).0 ≡ false
+read_real (pair p) e n now = by_if (wants_more p e n && fails_reading p e) (failed p e) _ refl refl
+read_real x e n now = refl
+
+peek_real : (x : Object) (e : End) (n : ℕ) → is_no_memory (peek x e n).0 ≡ false
+peek_real (pair p) e n = by_if (wants_more p e n && fails_reading p e) (failed p e) _ refl refl
+peek_real x e n = refl
+
+write_real : (x : Object) (e : End) (bytes : List ℕ) → is_no_memory (write x e bytes).0 ≡ false
+write_real x e bytes = by_write (λ a. is_no_memory a ≡ false) (λ k. refl) (λ error. refl) refl x e bytes
+
+shutdown_real : (x : Object) (e : End) (how : How) → is_no_memory (shutdown x e how).0 ≡ false
+shutdown_real (pair p) e how = refl
+shutdown_real x e how = refl
+
+error_real : (x : Object) (e : End) → is_no_memory (take_error x e).0 ≡ false
+error_real (pair p) e = refl
+error_real x e = refl
+
+name_real : (x : Object) (e : End) (of_peer : Bool) → is_no_memory (name_of x e of_peer).0 ≡ false
+name_real (pair p) e of_peer = refl
+name_real x e of_peer = refl
+
+settime_real : (x : Object) (absolute : Bool) (value interval now : ℕ) → is_no_memory (settime x absolute value interval now).0 ≡ false
+settime_real (timer t) absolute value interval now = refl
+settime_real x absolute value interval now = refl
+
+gettime_real : (x : Object) (now : ℕ) → is_no_memory (gettime x now).0 ≡ false
+gettime_real (timer t) now = refl
+gettime_real x now = refl
+
+effect_real : (x : Object) (e : End) (now : ℕ) (asked : ObjectCall) → is_no_memory (object_effect x e now asked).0 ≡ false
+effect_real x e now (reads n) = read_real x e n now
+effect_real x e now (writes bytes) = write_real x e bytes
+effect_real x e now (peeks n) = peek_real x e n
+effect_real x e now (shuts_down how) = shutdown_real x e how
+effect_real x e now takes_error = error_real x e
+effect_real x e now (asks_name of_peer) = name_real x e of_peer
+effect_real x e now (sets_time absolute value interval) = settime_real x absolute value interval now
+effect_real x e now asks_time = gettime_real x now
+
+pub answer_real : (x : Object) (e : End) (now : ℕ) (asked : ObjectCall) → is_no_memory (attempt (object_refusals x e now asked) x (object_effect x e now asked)).0 ≡ false
+answer_real x e now asked = real_unless (object_refusals x e now asked) x (object_effect x e now asked) (refusals_real x e now asked) (effect_real x e now asked)
