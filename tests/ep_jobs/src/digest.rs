@@ -1,6 +1,6 @@
 //! What was answered, as one number.
 
-use ep_base::Answer;
+use ep_base::{Answer, Errno, Name, Space};
 
 /// The word of eight bytes or fewer.
 fn word_of(bytes: &[u8]) -> u64 {
@@ -75,10 +75,29 @@ impl Digest {
             }
             Answer::Parked => self.note(6),
             Answer::Still => self.note(7),
-            Answer::Refused(errno) => {
-                self.note(8);
-                self.note(u64::from(errno.number()));
-            }
+            Answer::Refused(errno) => self.note_error(8, *errno),
+            Answer::Connecting => self.note(9),
+            Answer::Failed(errno) => self.note_error(10, *errno),
+            Answer::Named(name) => self.note_name(*name),
         }
+    }
+
+    /// Notes an error, and by a word what it is an answer to.
+    fn note_error(&mut self, kind: u64, errno: Errno) {
+        self.note(kind);
+        self.note(u64::from(errno.number()));
+    }
+
+    /// Notes the name of a socket, or that it has none.
+    fn note_name(&mut self, name: Option<Name>) {
+        let Some(name) = name else {
+            return self.note(11);
+        };
+        self.note(match name.space {
+            Space::V4 => 12,
+            Space::V6 => 13,
+            Space::Local => 14,
+        });
+        self.note(u64::from(name.number));
     }
 }

@@ -29,6 +29,8 @@ mod program;
 #[cfg(test)]
 mod sessions;
 #[cfg(test)]
+mod sockets;
+#[cfg(test)]
 mod verdicts;
 #[cfg(test)]
 mod versions;

@@ -2,7 +2,7 @@
 #![tactic(auto)]
 
 /// A line of each operation and of each answer.
-pub const PRINTED: [&str; 25] = [
+pub const PRINTED: [&str; 47] = [
     "{\"answer\":{\"two\":[3,4]},\"caller\":0,\"event\":{\"call\":{\"cloexec\":true,\"op\":\"pipe\"},\"pid\":1},\"picked\":[]}",
     "{\"answer\":{\"err\":[24,\"EMFILE\"]},\"caller\":0,\"event\":{\"call\":{\"cloexec\":false,\"op\":\"socketpair\"},\"pid\":1},\"picked\":[]}",
     "{\"answer\":{\"err\":[23,\"ENFILE\"]},\"caller\":0,\"event\":{\"call\":{\"cloexec\":false,\"op\":\"plain\"},\"pid\":1},\"picked\":[]}",
@@ -33,4 +33,26 @@ pub const PRINTED: [&str; 25] = [
     "{\"answer\":{\"still\":true},\"caller\":2,\"event\":{\"resume\":true},\"picked\":[]}",
     "{\"answer\":{\"done\":true},\"caller\":1,\"event\":{\"tick\":1000000000000},\"picked\":[]}",
     "{\"answer\":{\"num\":4096},\"caller\":1,\"event\":{\"call\":{\"fd\":4,\"fill\":[97,4097],\"op\":\"write\"},\"pid\":1},\"picked\":[]}",
+    "{\"answer\":{\"done\":true},\"caller\":0,\"event\":{\"call\":{\"fd\":3,\"how\":\"rd\",\"op\":\"shutdown\"},\"pid\":1},\"picked\":[]}",
+    "{\"answer\":{\"done\":true},\"caller\":0,\"event\":{\"call\":{\"fd\":3,\"how\":\"rdwr\",\"op\":\"shutdown\"},\"pid\":1},\"picked\":[]}",
+    "{\"answer\":{\"bytes\":\"6162\"},\"caller\":0,\"event\":{\"call\":{\"fd\":3,\"n\":2,\"op\":\"peek\"},\"pid\":1},\"picked\":[]}",
+    "{\"answer\":{\"failed\":[104,\"ECONNRESET\"]},\"caller\":0,\"event\":{\"call\":{\"fd\":3,\"n\":2,\"op\":\"read\"},\"pid\":1},\"picked\":[]}",
+    "{\"answer\":{\"num\":0},\"caller\":0,\"event\":{\"call\":{\"fd\":3,\"op\":\"sockerr\"},\"pid\":1},\"picked\":[]}",
+    "{\"answer\":{\"name\":null},\"caller\":0,\"event\":{\"call\":{\"fd\":3,\"op\":\"sockname\"},\"pid\":1},\"picked\":[]}",
+    "{\"answer\":{\"name\":[\"v4\",80]},\"caller\":0,\"event\":{\"call\":{\"fd\":3,\"op\":\"peername\"},\"pid\":1},\"picked\":[]}",
+    "{\"answer\":{\"name\":[\"v6\",65535]},\"caller\":0,\"event\":{\"call\":{\"fd\":3,\"op\":\"peername\"},\"pid\":1},\"picked\":[]}",
+    "{\"answer\":{\"name\":[\"local\",4294967295]},\"caller\":0,\"event\":{\"call\":{\"fd\":3,\"op\":\"sockname\"},\"pid\":1},\"picked\":[]}",
+    "{\"answer\":{\"num\":3},\"caller\":0,\"event\":{\"call\":{\"cloexec\":true,\"family\":\"tcp\",\"op\":\"socket\"},\"pid\":1},\"picked\":[]}",
+    "{\"answer\":{\"err\":[22,\"EINVAL\"]},\"caller\":0,\"event\":{\"call\":{\"cloexec\":false,\"family\":\"unix\",\"op\":\"socket\"},\"pid\":1},\"picked\":[]}",
+    "{\"answer\":{\"err\":[98,\"EADDRINUSE\"]},\"caller\":0,\"event\":{\"call\":{\"fd\":3,\"name\":80,\"op\":\"bind\",\"space\":\"v4\"},\"pid\":1},\"picked\":[]}",
+    "{\"answer\":{\"err\":[99,\"EADDRNOTAVAIL\"]},\"caller\":0,\"event\":{\"call\":{\"fd\":3,\"name\":4294967295,\"op\":\"bind\",\"space\":\"local\"},\"pid\":1},\"picked\":[]}",
+    "{\"answer\":{\"done\":true},\"caller\":0,\"event\":{\"call\":{\"fd\":3,\"name\":0,\"op\":\"bind\",\"space\":\"v6\"},\"pid\":1},\"picked\":[]}",
+    "{\"answer\":{\"err\":[97,\"EAFNOSUPPORT\"]},\"caller\":0,\"event\":{\"call\":{\"backlog\":-1,\"fd\":3,\"op\":\"listen\"},\"pid\":1},\"picked\":[]}",
+    "{\"answer\":{\"connecting\":true},\"caller\":0,\"event\":{\"call\":{\"fd\":4,\"name\":80,\"op\":\"connect\",\"space\":\"v4\"},\"pid\":1},\"picked\":[]}",
+    "{\"answer\":{\"err\":[103,\"ECONNABORTED\"]},\"caller\":0,\"event\":{\"call\":{\"fd\":4,\"name\":80,\"op\":\"connect\",\"space\":\"v6\"},\"pid\":1},\"picked\":[]}",
+    "{\"answer\":{\"err\":[106,\"EISCONN\"]},\"caller\":0,\"event\":{\"call\":{\"fd\":4,\"name\":7,\"op\":\"connect\",\"space\":\"local\"},\"pid\":1},\"picked\":[]}",
+    "{\"answer\":{\"err\":[107,\"ENOTCONN\"]},\"caller\":0,\"event\":{\"call\":{\"fd\":3,\"op\":\"peername\"},\"pid\":1},\"picked\":[]}",
+    "{\"answer\":{\"err\":[111,\"ECONNREFUSED\"]},\"caller\":0,\"event\":{\"call\":{\"fd\":4,\"name\":7,\"op\":\"connect\",\"space\":\"local\"},\"pid\":1},\"picked\":[]}",
+    "{\"answer\":{\"err\":[114,\"EALREADY\"]},\"caller\":0,\"event\":{\"call\":{\"fd\":4,\"name\":7,\"op\":\"connect\",\"space\":\"v4\"},\"pid\":1},\"picked\":[]}",
+    "{\"answer\":{\"num\":5},\"caller\":0,\"event\":{\"call\":{\"cloexec\":true,\"fd\":3,\"op\":\"accept\"},\"pid\":1},\"picked\":[]}",
 ];

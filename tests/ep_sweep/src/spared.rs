@@ -2,7 +2,7 @@
 
 use ep_base::{Call, Event};
 
-/// A read of so many bytes takes no memory, and a write of so many isn't copied.
+/// A read or a peek of so many bytes takes no memory, and a write of so many isn't copied.
 const SHORT: u32 = 16;
 
 /// Whether an event needs nothing but its record, whatever the kernel holds.
@@ -17,9 +17,11 @@ pub(crate) fn is_spared(event: &Event) -> bool {
 fn is_spared_call(call: &Call) -> bool {
     match call {
         Call::EpollCtl { op, .. } => *op != 1,
-        Call::Read { n, .. } => *n <= SHORT,
+        Call::Read { n, .. } | Call::Peek { n, .. } => *n <= SHORT,
         Call::Write { .. }
         | Call::Shutdown { .. }
+        | Call::TakeError { .. }
+        | Call::SocketName { .. }
         | Call::SetTime { .. }
         | Call::GetTime { .. }
         | Call::Close { .. }

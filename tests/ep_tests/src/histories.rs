@@ -7,7 +7,7 @@ use std::process::Abort;
 use std::test::Fail;
 
 /// Lines that are no record.
-pub(crate) const REFUSED: [&str; 33] = [
+pub(crate) const REFUSED: [&str; 55] = [
     "",
     "{}",
     "{\"answer\":{\"done\":true},\"caller\":1,\"event\":{\"tick\":5}}",
@@ -41,6 +41,28 @@ pub(crate) const REFUSED: [&str; 33] = [
     "{\"answer\":{\"num\":1},\"caller\":0,\"event\":{\"call\":{\"fd\":4,\"fill\":97,\"op\":\"write\"},\"pid\":1},\"picked\":[]}",
     "{\"answer\":{\"num\":1},\"caller\":0,\"event\":{\"call\":{\"fd\":4,\"fill\":[97,16],\"hex\":\"61\",\"op\":\"write\"},\"pid\":1},\"picked\":[]}",
     "{\"answer\":{\"num\":1},\"caller\":0,\"event\":{\"call\":{\"fd\":4,\"op\":\"write\"},\"pid\":1},\"picked\":[]}",
+    "{\"answer\":{\"done\":true},\"caller\":0,\"event\":{\"call\":{\"fd\":3,\"how\":\"wr\",\"op\":\"shutdown\"},\"pid\":1},\"picked\":[]}",
+    "{\"answer\":{\"done\":true},\"caller\":0,\"event\":{\"call\":{\"fd\":3,\"how\":\"both\",\"op\":\"shutdown\"},\"pid\":1},\"picked\":[]}",
+    "{\"answer\":{\"done\":true},\"caller\":0,\"event\":{\"call\":{\"fd\":3,\"how\":1,\"op\":\"shutdown\"},\"pid\":1},\"picked\":[]}",
+    "{\"answer\":{\"bytes\":\"\"},\"caller\":0,\"event\":{\"call\":{\"fd\":3,\"op\":\"peek\"},\"pid\":1},\"picked\":[]}",
+    "{\"answer\":{\"done\":true},\"caller\":0,\"event\":{\"call\":{\"fd\":3,\"op\":\"bind\",\"space\":\"v4\"},\"pid\":1},\"picked\":[]}",
+    "{\"answer\":{\"done\":true},\"caller\":0,\"event\":{\"call\":{\"fd\":3,\"name\":80,\"op\":\"bind\"},\"pid\":1},\"picked\":[]}",
+    "{\"answer\":{\"done\":true},\"caller\":0,\"event\":{\"call\":{\"name\":80,\"op\":\"bind\",\"space\":\"v4\"},\"pid\":1},\"picked\":[]}",
+    "{\"answer\":{\"done\":true},\"caller\":0,\"event\":{\"call\":{\"fd\":3,\"name\":\"80\",\"op\":\"bind\",\"space\":\"v4\"},\"pid\":1},\"picked\":[]}",
+    "{\"answer\":{\"done\":true},\"caller\":0,\"event\":{\"call\":{\"fd\":3,\"name\":80,\"op\":\"connect\",\"space\":\"v5\"},\"pid\":1},\"picked\":[]}",
+    "{\"answer\":{\"done\":true},\"caller\":0,\"event\":{\"call\":{\"fd\":3,\"op\":\"listen\"},\"pid\":1},\"picked\":[]}",
+    "{\"answer\":{\"num\":3},\"caller\":0,\"event\":{\"call\":{\"fd\":3,\"op\":\"accept\"},\"pid\":1},\"picked\":[]}",
+    "{\"answer\":{\"num\":3},\"caller\":0,\"event\":{\"call\":{\"cloexec\":true,\"op\":\"socket\"},\"pid\":1},\"picked\":[]}",
+    "{\"answer\":{\"num\":3},\"caller\":0,\"event\":{\"call\":{\"cloexec\":true,\"family\":\"udp\",\"op\":\"socket\"},\"pid\":1},\"picked\":[]}",
+    "{\"answer\":{\"num\":0},\"caller\":0,\"event\":{\"call\":{\"op\":\"sockerr\"},\"pid\":1},\"picked\":[]}",
+    "{\"answer\":{\"name\":null},\"caller\":0,\"event\":{\"call\":{\"fd\":3,\"op\":\"sockname\",\"peer\":true},\"pid\":1},\"picked\":[]}",
+    "{\"answer\":{\"connecting\":false},\"caller\":0,\"event\":{\"call\":{\"fd\":3,\"op\":\"close\"},\"pid\":1},\"picked\":[]}",
+    "{\"answer\":{\"failed\":[104,\"EPIPE\"]},\"caller\":0,\"event\":{\"call\":{\"fd\":3,\"op\":\"close\"},\"pid\":1},\"picked\":[]}",
+    "{\"answer\":{\"failed\":104},\"caller\":0,\"event\":{\"call\":{\"fd\":3,\"op\":\"close\"},\"pid\":1},\"picked\":[]}",
+    "{\"answer\":{\"name\":[\"v5\",80]},\"caller\":0,\"event\":{\"call\":{\"fd\":3,\"op\":\"sockname\"},\"pid\":1},\"picked\":[]}",
+    "{\"answer\":{\"name\":[\"v4\",4294967296]},\"caller\":0,\"event\":{\"call\":{\"fd\":3,\"op\":\"sockname\"},\"pid\":1},\"picked\":[]}",
+    "{\"answer\":{\"name\":[\"v4\"]},\"caller\":0,\"event\":{\"call\":{\"fd\":3,\"op\":\"sockname\"},\"pid\":1},\"picked\":[]}",
+    "{\"answer\":{\"name\":\"v4\"},\"caller\":0,\"event\":{\"call\":{\"fd\":3,\"op\":\"sockname\"},\"pid\":1},\"picked\":[]}",
 ];
 
 fn expect_again(rt: &(impl AllocGlobal + Abort), line: &str) -> Result<(), Fail> {

@@ -9,7 +9,7 @@ use std::process::Abort;
 use std::test::Fail;
 
 /// Lines of scripts of version 2, and the caller and the event of each, as a record has it.
-pub(crate) const COMMANDS: [(&str, u32, &str); 33] = [
+pub(crate) const COMMANDS: [(&str, u32, &str); 48] = [
     (
         "{\"op\":\"pipe\"}",
         0,
@@ -160,6 +160,81 @@ pub(crate) const COMMANDS: [(&str, u32, &str); 33] = [
         0,
         "{\"call\":{\"act\":2,\"data\":0,\"ep\":5,\"fd\":3,\"mask\":1610612766,\"op\":\"ctl\"},\"pid\":1}",
     ),
+    (
+        "{\"op\":\"shutdown\",\"fd\":3,\"how\":\"wr\"}",
+        0,
+        "{\"call\":{\"fd\":3,\"op\":\"shutdown\"},\"pid\":1}",
+    ),
+    (
+        "{\"op\":\"shutdown\",\"fd\":3,\"how\":\"rd\"}",
+        0,
+        "{\"call\":{\"fd\":3,\"how\":\"rd\",\"op\":\"shutdown\"},\"pid\":1}",
+    ),
+    (
+        "{\"how\":\"rdwr\",\"op\":\"shutdown\",\"by\":2,\"fd\":3}",
+        2,
+        "{\"call\":{\"fd\":3,\"how\":\"rdwr\",\"op\":\"shutdown\"},\"pid\":1}",
+    ),
+    (
+        "{\"op\":\"peek\",\"fd\":3,\"n\":4294967295}",
+        0,
+        "{\"call\":{\"fd\":3,\"n\":4294967295,\"op\":\"peek\"},\"pid\":1}",
+    ),
+    (
+        "{\"op\":\"sockerr\",\"fd\":-1}",
+        0,
+        "{\"call\":{\"fd\":-1,\"op\":\"sockerr\"},\"pid\":1}",
+    ),
+    (
+        "{\"op\":\"sockname\",\"fd\":3,\"pid\":2}",
+        0,
+        "{\"call\":{\"fd\":3,\"op\":\"sockname\"},\"pid\":2}",
+    ),
+    (
+        "{\"op\":\"peername\",\"fd\":4}",
+        0,
+        "{\"call\":{\"fd\":4,\"op\":\"peername\"},\"pid\":1}",
+    ),
+    (
+        "{\"op\":\"socket\",\"family\":\"tcp\"}",
+        0,
+        "{\"call\":{\"cloexec\":false,\"family\":\"tcp\",\"op\":\"socket\"},\"pid\":1}",
+    ),
+    (
+        "{\"op\":\"socket\",\"family\":\"unix\",\"cloexec\":true}",
+        0,
+        "{\"call\":{\"cloexec\":true,\"family\":\"unix\",\"op\":\"socket\"},\"pid\":1}",
+    ),
+    (
+        "{\"op\":\"bind\",\"fd\":3,\"space\":\"v4\",\"name\":65535}",
+        0,
+        "{\"call\":{\"fd\":3,\"name\":65535,\"op\":\"bind\",\"space\":\"v4\"},\"pid\":1}",
+    ),
+    (
+        "{\"op\":\"bind\",\"fd\":3,\"space\":\"local\",\"name\":4294967295}",
+        0,
+        "{\"call\":{\"fd\":3,\"name\":4294967295,\"op\":\"bind\",\"space\":\"local\"},\"pid\":1}",
+    ),
+    (
+        "{\"op\":\"connect\",\"name\":0,\"space\":\"v6\",\"fd\":5}",
+        0,
+        "{\"call\":{\"fd\":5,\"name\":0,\"op\":\"connect\",\"space\":\"v6\"},\"pid\":1}",
+    ),
+    (
+        "{\"op\":\"listen\",\"fd\":3,\"backlog\":-2147483648}",
+        0,
+        "{\"call\":{\"backlog\":-2147483648,\"fd\":3,\"op\":\"listen\"},\"pid\":1}",
+    ),
+    (
+        "{\"op\":\"accept\",\"fd\":3}",
+        0,
+        "{\"call\":{\"cloexec\":false,\"fd\":3,\"op\":\"accept\"},\"pid\":1}",
+    ),
+    (
+        "{\"op\":\"accept\",\"fd\":3,\"cloexec\":true}",
+        0,
+        "{\"call\":{\"cloexec\":true,\"fd\":3,\"op\":\"accept\"},\"pid\":1}",
+    ),
     ("{\"op\":\"resume\"}", 0, "{\"resume\":true}"),
     (
         "{\"by\":4294967295,\"op\":\"resume\"}",
@@ -211,7 +286,7 @@ fn reads_each_operation(rt: HostRuntime) -> Result<(), Fail> {
 }
 
 /// Lines that are no command of either version.
-pub(crate) const NO_COMMANDS: [&str; 67] = [
+pub(crate) const NO_COMMANDS: [&str; 92] = [
     "",
     " ",
     "{\"op\":\"pi",
@@ -274,6 +349,31 @@ pub(crate) const NO_COMMANDS: [&str; 67] = [
     "{\"op\":\"dup\",\"fd\":0,\"x\":1}",
     "{\"op\":\"dup2\",\"fd\":0}",
     "{\"op\":\"fork\",\"fd\":0}",
+    "{\"op\":\"shutdown\",\"fd\":3,\"how\":\"RD\"}",
+    "{\"op\":\"shutdown\",\"fd\":3,\"how\":0}",
+    "{\"op\":\"close\",\"fd\":3,\"how\":\"wr\"}",
+    "{\"op\":\"peek\",\"fd\":3}",
+    "{\"op\":\"peek\",\"n\":3}",
+    "{\"op\":\"sockerr\"}",
+    "{\"op\":\"sockname\",\"fd\":3,\"peer\":true}",
+    "{\"op\":\"peername\",\"fd\":\"3\"}",
+    "{\"op\":\"socket\"}",
+    "{\"op\":\"socket\",\"family\":\"udp\"}",
+    "{\"op\":\"socket\",\"family\":\"tcp\",\"fd\":3}",
+    "{\"op\":\"bind\",\"fd\":3,\"space\":\"v4\"}",
+    "{\"op\":\"bind\",\"fd\":3,\"name\":80}",
+    "{\"op\":\"bind\",\"space\":\"v4\",\"name\":80}",
+    "{\"op\":\"bind\",\"fd\":3,\"space\":\"v5\",\"name\":80}",
+    "{\"op\":\"bind\",\"fd\":3,\"space\":\"v4\",\"name\":\"80\"}",
+    "{\"op\":\"bind\",\"fd\":3,\"space\":\"v4\",\"name\":65536}",
+    "{\"op\":\"connect\",\"fd\":3,\"space\":\"v6\",\"name\":65536}",
+    "{\"op\":\"connect\",\"fd\":3,\"space\":\"local\",\"name\":4294967296}",
+    "{\"op\":\"connect\",\"fd\":3,\"space\":\"local\",\"name\":-1}",
+    "{\"op\":\"listen\",\"fd\":3}",
+    "{\"op\":\"listen\",\"backlog\":3}",
+    "{\"op\":\"listen\",\"fd\":3,\"backlog\":2147483648}",
+    "{\"op\":\"accept\"}",
+    "{\"op\":\"accept\",\"fd\":3,\"flags\":0}",
     // Headers, and what is none.
     "{\"version\":1}",
     "{\"version\":2}",
@@ -315,7 +415,7 @@ fn refuses_a_deep_list(rt: HostRuntime) -> Result<(), Fail> {
 }
 
 /// Lines of answers of version 2.
-const ANSWERS: [&str; 11] = [
+const ANSWERS: [&str; 25] = [
     "{\"done\":true}",
     "{\"num\":5}",
     "{\"two\":[3,4]}",
@@ -327,6 +427,20 @@ const ANSWERS: [&str; 11] = [
     "{\"parked\":true}",
     "{\"still\":true}",
     "{\"err\":[9,\"EBADF\"]}",
+    "{\"connecting\":true}",
+    "{\"failed\":[104,\"ECONNRESET\"]}",
+    "{\"failed\":[111,\"ECONNREFUSED\"]}",
+    "{\"name\":[\"v4\",80]}",
+    "{\"name\":[\"v6\",0]}",
+    "{\"name\":[\"local\",4294967295]}",
+    "{\"name\":null}",
+    "{\"err\":[97,\"EAFNOSUPPORT\"]}",
+    "{\"err\":[98,\"EADDRINUSE\"]}",
+    "{\"err\":[99,\"EADDRNOTAVAIL\"]}",
+    "{\"err\":[103,\"ECONNABORTED\"]}",
+    "{\"err\":[106,\"EISCONN\"]}",
+    "{\"err\":[107,\"ENOTCONN\"]}",
+    "{\"err\":[114,\"EALREADY\"]}",
 ];
 
 /// The answer of a record is printed as its line.

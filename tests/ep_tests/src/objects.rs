@@ -3,7 +3,7 @@
 use crate::counters::{at, is_value};
 use crate::streams::{MANY, are_many};
 use ep_base::End::{First, Second};
-use ep_base::{Answer, Buffer, Call, End, Fd, Mask, Moment, Raised, Span};
+use ep_base::{Answer, Buffer, Call, End, Errno, Fd, How, Mask, Moment, Raised, Span};
 use ep_object::{Object, ObjectCall};
 use std::alloc::{AllocError, Global};
 use std::process::Abort;
@@ -31,6 +31,12 @@ fn ask(
     object.apply(end, now, &asked)
 }
 
+/// How many bytes a call at the first end could give.
+fn waiting(object: &Object, call: &Call) -> Result<usize, AllocError> {
+    let (_, asked) = ObjectCall::of(call).ok_or(AllocError)?;
+    Ok(object.waiting(First, &asked))
+}
+
 /// Bytes that are written at the second end are read at the first; then the second is closed, which raises these bits
 /// there, and those hold then.
 fn carries(
@@ -41,7 +47,7 @@ fn carries(
 ) -> Result<(), AllocError> {
     let mut object = made?;
     let (written, _) = ask(&mut object, Second, at(0), &write(rt.alloc())?)?;
-    assert!(rt; written == Answer::Num(20) && object.waiting(First) == 20);
+    assert!(rt; written == Answer::Num(20) && waiting(&object, &read(64))? == 20);
     let (given, _) = ask(&mut object, First, at(0), &read(64))?;
     assert!(rt; are_many(&given));
     assert!(rt;
@@ -54,6 +60,54 @@ fn carries(
 fn a_pipe_and_a_pair_carry_bytes(rt: HostRuntime) -> Result<(), Fail> {
     carries(&rt, Object::pipe(rt.alloc(), 4_096), Mask(16), Mask(16))?;
     carries(&rt, Object::pair(rt.alloc(), 64), Mask(8_209), Mask(8_213))?;
+    Ok(())
+}
+
+const PEEK: Call = Call::Peek { fd: Fd(3), n: 64 };
+
+const SHUTDOWN: Call = Call::Shutdown {
+    fd: Fd(3),
+    how: How::Read,
+};
+
+const ERROR: Call = Call::TakeError { fd: Fd(3) };
+
+const OWN_NAME: Call = Call::SocketName {
+    fd: Fd(3),
+    peer: false,
+};
+
+const PEER_NAME: Call = Call::SocketName {
+    fd: Fd(3),
+    peer: true,
+};
+
+/// Only a socket answers a peek, a shutdown, and what asks for its error or a name.
+#[test]
+fn only_a_socket_answers(rt: HostRuntime) -> Result<(), Fail> {
+    let mut pipe = Object::pipe(rt.alloc(), 4_096)?;
+    ask(&mut pipe, Second, at(0), &write(rt.alloc())?)?;
+    assert!(rt; waiting(&pipe, &PEEK)? == 0 && waiting(&pipe, &read(64))? == 20);
+    for call in [PEEK, SHUTDOWN, ERROR, OWN_NAME, PEER_NAME] {
+        let (refused, _) = ask(&mut pipe, First, at(0), &call)?;
+        assert!(rt; refused == Answer::Refused(Errno::Enotsock));
+    }
+    Ok(())
+}
+
+#[test]
+fn a_pair_answers_as_a_socket(rt: HostRuntime) -> Result<(), Fail> {
+    let mut pair = Object::pair(rt.alloc(), 64)?;
+    ask(&mut pair, Second, at(0), &write(rt.alloc())?)?;
+    let (seen, _) = ask(&mut pair, First, at(0), &PEEK)?;
+    assert!(rt; are_many(&seen) && waiting(&pair, &PEEK)? == 20);
+    let (done, raised) = ask(&mut pair, First, at(0), &SHUTDOWN)?;
+    assert!(rt; done == Answer::Done && raised.first == Mask(8_193));
+    let (error, _) = ask(&mut pair, First, at(0), &ERROR)?;
+    assert!(rt; error == Answer::Num(0));
+    let (own, _) = ask(&mut pair, First, at(0), &OWN_NAME)?;
+    let (peer, _) = ask(&mut pair, First, at(0), &PEER_NAME)?;
+    assert!(rt; own == Answer::Named(None) && peer == Answer::Named(None));
     Ok(())
 }
 

@@ -19,6 +19,14 @@ const HEX: &str = "a text of an even number of hexadecimal digits";
 
 pub(crate) const FILL: &str = "a list of a byte, 0 to 255, and a count, 0 to 1048576";
 
+const HOW: &str = "\"rd\", \"wr\" or \"rdwr\"";
+
+const FAMILY: &str = "\"tcp\" or \"unix\"";
+
+const SPACE: &str = "\"v4\", \"v6\" or \"local\"";
+
+const PORT: &str = "a whole number from 0 to 65535";
+
 fn expect(rt: &(impl AllocGlobal + Abort), line: &[u8], wanted: &str) -> Result<(), Fail> {
     let Some(reason) = explain(rt.alloc(), line)? else {
         return Err(Fail::from("a command"));
@@ -149,6 +157,10 @@ fn asks_whether_another_op_was_meant(rt: HostRuntime) -> Result<(), Fail> {
         ("dup3", "; did you mean \"dup\"?"),
         ("etime", "; did you mean \"gettime\"?"),
         ("tic", "; did you mean \"tick\"?"),
+        ("sockt", "; did you mean \"socket\"?"),
+        ("binds", "; did you mean \"bind\"?"),
+        ("accept4", "; did you mean \"accept\"?"),
+        ("getpeername", ""),
         ("epoll_wait", ""),
         ("select", ""),
         ("pi", ""),
@@ -176,6 +188,9 @@ fn asks_whether_another_key_was_meant(rt: HostRuntime) -> Result<(), Fail> {
         ("tick", "m", ""),
         ("ctl", "dat", "; did you mean \"data\"?"),
         ("fork", "dat", ""),
+        ("bind", "nam", "; did you mean \"name\"?"),
+        ("listen", "backlogs", "; did you mean \"backlog\"?"),
+        ("close", "nam", ""),
         ("resume", "bi", "; did you mean \"by\"?"),
         ("resume", "ob", ""),
     ] {
@@ -216,6 +231,18 @@ fn tells_a_missing_key(rt: HostRuntime) -> Result<(), Fail> {
         ("\"close\"", "fd"),
         ("\"write\"", "fd"),
         ("\"tick\"", "n"),
+        ("\"shutdown\"", "fd"),
+        ("\"peek\",\"fd\":1", "n"),
+        ("\"sockerr\"", "fd"),
+        ("\"sockname\"", "fd"),
+        ("\"peername\"", "fd"),
+        ("\"socket\"", "family"),
+        ("\"bind\",\"fd\":1", "space"),
+        ("\"bind\",\"fd\":1,\"space\":\"v4\"", "name"),
+        ("\"connect\",\"fd\":1", "space"),
+        ("\"connect\",\"fd\":1,\"space\":\"local\"", "name"),
+        ("\"listen\",\"fd\":1", "backlog"),
+        ("\"accept\"", "fd"),
     ] {
         expect_key(&rt, keys, key, "is missing", "")?;
     }
@@ -240,6 +267,19 @@ fn tells_a_value_of_another_kind(rt: HostRuntime) -> Result<(), Fail> {
         ),
         ("\"write\",\"fd\":1,\"hex\":6", "hex", HEX),
         ("\"write\",\"fd\":1,\"fill\":7", "fill", FILL),
+        ("\"shutdown\",\"fd\":1,\"how\":1", "how", HOW),
+        ("\"socket\",\"family\":2", "family", FAMILY),
+        ("\"bind\",\"fd\":1,\"space\":4", "space", SPACE),
+        (
+            "\"bind\",\"fd\":1,\"space\":\"v4\",\"name\":\"80\"",
+            "name",
+            PORT,
+        ),
+        (
+            "\"bind\",\"fd\":1,\"space\":\"local\",\"name\":\"80\"",
+            "name",
+            UNSIGNED,
+        ),
     ] {
         expect_key(&rt, keys, key, "must be ", range)?;
     }
@@ -264,6 +304,24 @@ fn tells_a_value_out_of_range(rt: HostRuntime) -> Result<(), Fail> {
         ("\"write\",\"fd\":1,\"hex\":\"6\"", "hex", HEX),
         ("\"write\",\"fd\":1,\"fill\":[256,1]", "fill", FILL),
         ("\"write\",\"fd\":1,\"fill\":[1,1,1]", "fill", FILL),
+        ("\"shutdown\",\"fd\":1,\"how\":\"both\"", "how", HOW),
+        ("\"socket\",\"family\":\"udp\"", "family", FAMILY),
+        ("\"connect\",\"fd\":1,\"space\":\"V4\"", "space", SPACE),
+        (
+            "\"connect\",\"fd\":1,\"space\":\"v6\",\"name\":65536",
+            "name",
+            PORT,
+        ),
+        (
+            "\"bind\",\"fd\":1,\"space\":\"local\",\"name\":4294967296",
+            "name",
+            UNSIGNED,
+        ),
+        (
+            "\"listen\",\"fd\":1,\"backlog\":2147483648",
+            "backlog",
+            SIGNED,
+        ),
     ] {
         expect_key(&rt, keys, key, "is out of range: ", range)?;
     }

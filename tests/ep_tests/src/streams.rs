@@ -2,7 +2,7 @@
 //! of `ep_examples`.
 
 use ep_base::End::{First, Second};
-use ep_base::{Answer, Buffer, Errno, Mask, Raised};
+use ep_base::{Answer, Buffer, End, Errno, How, Mask, Raised};
 use ep_stream::{Pipe, SockPair};
 use std::alloc::AllocError;
 use std::process::Abort;
@@ -58,10 +58,157 @@ fn goes_across(rt: &(impl Abort + AllocGlobal), pair: &mut SockPair) -> Result<(
     assert!(rt; pair.waiting(First) == 20 && pair.present(First) == Mask(5));
     let (read, _) = pair.read(First, 64)?;
     assert!(rt; are_many(&read));
-    assert!(rt; pair.shutdown(Second).first == Mask(8_193));
-    let shut = pair.shutdown(First);
-    assert!(rt; shut.first == Mask::HUP && shut.second == Mask(8_209));
+    assert!(rt; is_so(pair.shutdown(Second, How::Write), Answer::Done, 8_193, 0));
+    assert!(rt; is_so(pair.shutdown(First, How::Write), Answer::Done, 16, 8_209));
     assert!(rt; pair.close_end(Second).first == Mask(8_209));
+    Ok(())
+}
+
+/// A step of a table of half closes: at which end what is shut, what that raises at the first end and at the second,
+/// and what each shows then.
+struct Half {
+    end: End,
+    how: How,
+    raised: [u32; 2],
+    shown: [u32; 2],
+}
+
+/// An end that shut its reading reads the end of the stream: IN, OUT and RDHUP (8,197). HUP (16) comes to an end once
+/// neither direction is left there. So it comes to both ends if both shut their reading, or if one shuts both ways, and
+/// with IN, OUT and RDHUP they show 8,213. What is shut already raises nothing.
+const READING: [Half; 3] = [
+    Half {
+        end: First,
+        how: How::Read,
+        raised: [8_193, 0],
+        shown: [8_197, 4],
+    },
+    Half {
+        end: First,
+        how: How::Read,
+        raised: [0, 0],
+        shown: [8_197, 4],
+    },
+    Half {
+        end: Second,
+        how: How::Read,
+        raised: [16, 8_209],
+        shown: [8_213, 8_213],
+    },
+];
+
+const BOTH_WAYS: [Half; 3] = [
+    Half {
+        end: Second,
+        how: How::Both,
+        raised: [8_209, 8_209],
+        shown: [8_213, 8_213],
+    },
+    Half {
+        end: Second,
+        how: How::Write,
+        raised: [0, 0],
+        shown: [8_213, 8_213],
+    },
+    Half {
+        end: First,
+        how: How::Both,
+        raised: [8_193, 8_193],
+        shown: [8_213, 8_213],
+    },
+];
+
+/// One end shuts its writing, so the other reads the end, and then its reading, so that neither direction is left.
+const ONE_BY_ONE: [Half; 2] = [
+    Half {
+        end: First,
+        how: How::Write,
+        raised: [0, 8_193],
+        shown: [4, 8_197],
+    },
+    Half {
+        end: First,
+        how: How::Read,
+        raised: [8_209, 16],
+        shown: [8_213, 8_213],
+    },
+];
+
+#[test]
+fn a_pair_is_shut_by_halves(rt: HostRuntime) -> Result<(), Fail> {
+    shuts(&rt, &READING)?;
+    shuts(&rt, &BOTH_WAYS)?;
+    shuts(&rt, &ONE_BY_ONE)?;
+    Ok(())
+}
+
+fn shuts(rt: &(impl Abort + AllocGlobal), halves: &[Half]) -> Result<(), AllocError> {
+    let mut pair = SockPair::new(rt.alloc(), 64)?;
+    for half in halves {
+        let made = pair.shutdown(half.end, half.how);
+        assert!(rt; is_so(made, Answer::Done, half.raised[0], half.raised[1]));
+        assert!(rt; pair.present(First) == Mask(half.shown[0]));
+        assert!(rt; pair.present(Second) == Mask(half.shown[1]));
+    }
+    Ok(())
+}
+
+/// What waits at an end that shut its reading is still read, and then the end of the stream. A write to it is EPIPE.
+#[test]
+fn a_deaf_end_reads_what_waits(rt: HostRuntime) -> Result<(), Fail> {
+    let mut pair = SockPair::new(rt.alloc(), 64)?;
+    let many = Buffer::new(MANY.to_vec(rt.alloc())?);
+    assert!(rt; pair.write(Second, &many).0 == Answer::Num(20));
+    let _ = pair.shutdown(First, How::Read);
+    assert!(rt;
+        is_so(
+            pair.write(Second, &many),
+            Answer::Refused(Errno::Epipe),
+            0,
+            0
+        )
+    );
+    assert!(rt; pair.write(Second, &Buffer::filled(1, 0)).0 == Answer::Num(0));
+    let (read, _) = pair.read(First, 64)?;
+    assert!(rt; are_many(&read));
+    let (read, _) = pair.read(First, 64)?;
+    assert!(rt; are_all(&read, 0, 0));
+    assert!(rt; pair.write(First, &many).0 == Answer::Num(20));
+    Ok(())
+}
+
+/// A peek gives what waits and leaves it; where nothing waits it is EAGAIN, and the end once that came.
+#[test]
+fn a_peek_leaves_the_bytes(rt: HostRuntime) -> Result<(), Fail> {
+    let mut pair = SockPair::new(rt.alloc(), 64)?;
+    assert!(rt; is_so(pair.peek(First, 1)?, Answer::Refused(Errno::Eagain), 0, 0));
+    let (none, _) = pair.peek(First, 0)?;
+    assert!(rt; are_all(&none, 0, 0));
+    assert!(rt; pair.write(Second, &Buffer::filled(7, 64)).0 == Answer::Num(64));
+    let (seen, raised) = pair.peek(First, 20)?;
+    assert!(rt; are_many(&seen) && raised.second == Mask(0) && pair.waiting(First) == 64);
+    assert!(rt; pair.present(Second) == Mask(0));
+    let (read, _) = pair.read(First, 99)?;
+    assert!(rt; are_all(&read, 7, 64));
+    let _ = pair.shutdown(Second, How::Write);
+    let (none, _) = pair.peek(First, 1)?;
+    assert!(rt; are_all(&none, 0, 0));
+    Ok(())
+}
+
+/// A pair of socketpair(2) has no name, and no error while an end lives: bytes that nobody read are lost without a
+/// word. Whichever end closes first, nobody can tell once both are closed.
+#[test]
+fn a_pair_tells_no_loss(rt: HostRuntime) -> Result<(), Fail> {
+    let mut pair = SockPair::new(rt.alloc(), 64)?;
+    assert!(rt; pair.name().is_none() && pair.take_error(First) == Answer::Num(0));
+    assert!(rt; pair.write(Second, &Buffer::filled(7, 1)).0 == Answer::Num(1));
+    assert!(rt; pair.close_end(First).second == Mask(8_209));
+    assert!(rt; pair.present(Second) == Mask(8_213));
+    assert!(rt; pair.take_error(Second) == Answer::Num(0));
+    let last = pair.close_end(Second);
+    assert!(rt; last.first == Mask(0) && last.second == Mask(0));
+    assert!(rt; pair.present(First) == pair.present(Second));
     Ok(())
 }
 

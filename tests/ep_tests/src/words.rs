@@ -87,3 +87,17 @@ fn ranges_of_limits(rt: HostRuntime) {
     assert_eq!(rt; Limits::default().pipe_bytes(), 65_536);
     assert_eq!(rt; Errno::Enotsock.number(), 88);
 }
+
+/// The numbers of Linux's errno-base.h and errno.h.
+#[test]
+fn numbers_of_errors_of_sockets(rt: HostRuntime) {
+    assert_eq!(rt; Errno::Eafnosupport.number(), 97);
+    assert_eq!(rt; Errno::Eaddrinuse.number(), 98);
+    assert_eq!(rt; Errno::Eaddrnotavail.number(), 99);
+    assert_eq!(rt; Errno::Econnaborted.number(), 103);
+    assert_eq!(rt; Errno::Econnreset.number(), 104);
+    assert_eq!(rt; Errno::Eisconn.number(), 106);
+    assert_eq!(rt; Errno::Enotconn.number(), 107);
+    assert_eq!(rt; Errno::Econnrefused.number(), 111);
+    assert_eq!(rt; Errno::Ealready.number(), 114);
+}

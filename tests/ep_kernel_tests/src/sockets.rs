@@ -1,0 +1,261 @@
+//! What both kernels answer to the calls of sockets. The answers are worked out by hand from docs/calls.md and the
+//! manual pages: IN is 1, OUT 4, HUP 16, RDHUP 8,192.
+
+use crate::kernels::{Script, is_run, on_both_kernels};
+use ep_base::{
+    Answer, Buffer, Call, CallerId, Errno, Event, Family, Fd, How, Mask, Name, Pid, Space, Timeout,
+};
+use ep_plain::Kernel;
+use std::alloc::{AllocError, Global};
+use std::process::Abort;
+use std::sync::Wait;
+use std::test::Fail;
+
+const PROCESS: Pid = Pid(1);
+
+const PORT: Name = Name {
+    space: Space::V4,
+    number: 80,
+};
+
+fn call<K: Kernel>(kernel: &mut K, call: Call) -> Answer {
+    kernel.step(CallerId(0), Event::Call { pid: PROCESS, call })
+}
+
+/// Whether an answer is so many bytes of 7.
+fn are_sevens(answer: &Answer, count: usize) -> bool {
+    match answer {
+        Answer::Bytes(bytes) => {
+            let bytes = bytes.as_slice();
+            bytes.len() == count && bytes.iter().all(|each| *each == 7)
+        }
+        _ => false,
+    }
+}
+
+fn write(fd: i32, count: usize) -> Call {
+    Call::Write {
+        fd: Fd(fd),
+        bytes: Buffer::filled(7, count),
+    }
+}
+
+fn shut(fd: i32, how: How) -> Call {
+    Call::Shutdown { fd: Fd(fd), how }
+}
+
+/// The calls that only sockets answer, on one descriptor.
+fn asks_of(fd: i32) -> [Call; 5] {
+    let fd = Fd(fd);
+    [
+        Call::Peek { fd, n: 8 },
+        Call::Shutdown { fd, how: How::Both },
+        Call::TakeError { fd },
+        Call::SocketName { fd, peer: false },
+        Call::SocketName { fd, peer: true },
+    ]
+}
+
+/// The calls that make and connect sockets: two on end 3 of a pair, two on numbers that name nothing, and one on none.
+fn of_listeners() -> [Call; 5] {
+    [
+        Call::Socket {
+            family: Family::Tcp,
+            cloexec: false,
+        },
+        Call::Bind {
+            fd: Fd(3),
+            name: PORT,
+        },
+        Call::Listen {
+            fd: Fd(9),
+            backlog: 5,
+        },
+        Call::Connect {
+            fd: Fd(-1),
+            name: PORT,
+        },
+        Call::Accept {
+            fd: Fd(3),
+            cloexec: true,
+        },
+    ]
+}
+
+/// Ends 3 and 4 of a pair: 20 bytes go to end 3, are peeked at twice and then read; both ends have neither name nor
+/// error. End 3 shuts its reading, so it reads the end of the stream, and writing to it is EPIPE.
+struct Halves;
+
+impl Script for Halves {
+    fn run<K: Kernel + Drop, R: Abort + AllocGlobal + Wait>(
+        &self,
+        rt: &R,
+        mut kernel: K,
+    ) -> Result<(), AllocError> {
+        let _ = call(&mut kernel, Call::SocketPair { cloexec: false });
+        peeks(rt, &mut kernel);
+        goes_deaf(rt, &mut kernel);
+        assert!(rt; is_run(rt.alloc(), &kernel, 16));
+        Ok(())
+    }
+}
+
+fn peeks<K: Kernel>(rt: &impl Abort, kernel: &mut K) {
+    let peek = |n| Call::Peek { fd: Fd(3), n };
+    assert!(rt; call(kernel, peek(8)) == Answer::Refused(Errno::Eagain));
+    assert!(rt; call(kernel, write(4, 20)) == Answer::Num(20));
+    assert!(rt; are_sevens(&call(kernel, peek(4)), 4));
+    assert!(rt; are_sevens(&call(kernel, peek(64)), 20));
+    assert!(rt; are_sevens(&call(kernel, Call::Read { fd: Fd(3), n: 64 }), 20));
+    assert!(rt; call(kernel, peek(1)) == Answer::Refused(Errno::Eagain));
+    for peer in [false, true] {
+        let name = Call::SocketName { fd: Fd(4), peer };
+        assert!(rt; call(kernel, name) == Answer::Named(None));
+    }
+    assert!(rt; call(kernel, Call::TakeError { fd: Fd(3) }) == Answer::Num(0));
+}
+
+fn goes_deaf<K: Kernel>(rt: &impl Abort, kernel: &mut K) {
+    assert!(rt; call(kernel, write(4, 2)) == Answer::Num(2));
+    assert!(rt; call(kernel, shut(3, How::Read)) == Answer::Done);
+    assert!(rt; call(kernel, write(4, 1)) == Answer::Refused(Errno::Epipe));
+    assert!(rt; are_sevens(&call(kernel, Call::Read { fd: Fd(3), n: 9 }), 2));
+    assert!(rt; are_sevens(&call(kernel, Call::Peek { fd: Fd(3), n: 9 }), 0));
+    assert!(rt; call(kernel, write(3, 1)) == Answer::Num(1));
+}
+
+#[test]
+fn an_end_is_peeked_at_and_goes_deaf(rt: HostRuntime) -> Result<(), Fail> {
+    on_both_kernels(&rt, &Halves)?;
+    Ok(())
+}
+
+/// Instance 5 watches end 4 of a pair, edge-triggered for RDHUP. What is told there as end 3 shuts its reading, its
+/// writing, and both again: nothing, as end 4 may still read; RDHUP and HUP, as neither direction is left; nothing,
+/// as both were shut.
+struct Told;
+
+impl Script for Told {
+    fn run<K: Kernel + Drop, R: Abort + AllocGlobal + Wait>(
+        &self,
+        rt: &R,
+        mut kernel: K,
+    ) -> Result<(), AllocError> {
+        let _ = call(&mut kernel, Call::SocketPair { cloexec: false });
+        let _ = call(&mut kernel, Call::EpollCreate { cloexec: false });
+        let add = Call::EpollCtl {
+            epfd: Fd(5),
+            op: 1,
+            fd: Fd(4),
+            mask: Mask(0x8000_2000),
+            tag: 40,
+        };
+        assert!(rt; call(&mut kernel, add) == Answer::Done);
+        for (how, bits) in [(How::Read, 0), (How::Write, 8_208), (How::Both, 0)] {
+            assert!(rt; call(&mut kernel, shut(3, how)) == Answer::Done);
+            assert!(rt; are_told(&wait(&mut kernel), bits));
+        }
+        assert!(rt; is_run(rt.alloc(), &kernel, 9));
+        Ok(())
+    }
+}
+
+fn wait<K: Kernel>(kernel: &mut K) -> Answer {
+    let wait = Call::EpollWait {
+        epfd: Fd(5),
+        max: 8,
+        timeout: Timeout(0),
+    };
+    call(kernel, wait)
+}
+
+/// Whether these bits are reported with the tag 40, or nothing for 0.
+fn are_told(answer: &Answer, bits: u32) -> bool {
+    match answer {
+        Answer::Events(reports) => match reports.as_slice() {
+            [one] => one.bits == Mask(bits) && one.tag == 40,
+            [] => bits == 0,
+            _ => false,
+        },
+        _ => false,
+    }
+}
+
+#[test]
+fn a_half_that_is_shut_is_told(rt: HostRuntime) -> Result<(), Fail> {
+    on_both_kernels(&rt, &Told)?;
+    Ok(())
+}
+
+/// Each call of sockets is refused: EBADF where a number names nothing, ENOTSOCK of an eventfd, EINVAL of what makes
+/// and connects them.
+struct Refused;
+
+impl Script for Refused {
+    fn run<K: Kernel + Drop, R: Abort + AllocGlobal + Wait>(
+        &self,
+        rt: &R,
+        mut kernel: K,
+    ) -> Result<(), AllocError> {
+        let _ = call(&mut kernel, Call::SocketPair { cloexec: false });
+        let counter = Call::EventFd {
+            init: 1,
+            semaphore: false,
+            cloexec: false,
+        };
+        assert!(rt; call(&mut kernel, counter) == Answer::Num(5));
+        refuses(rt, &mut kernel, asks_of(9), Errno::Ebadf);
+        refuses(rt, &mut kernel, asks_of(5), Errno::Enotsock);
+        refuses(rt, &mut kernel, of_listeners(), Errno::Einval);
+        assert!(rt; is_run(rt.alloc(), &kernel, 17));
+        Ok(())
+    }
+}
+
+fn refuses<K: Kernel>(rt: &impl Abort, kernel: &mut K, calls: [Call; 5], errno: Errno) {
+    for each in calls {
+        assert!(rt; call(kernel, each) == Answer::Refused(errno));
+    }
+}
+
+#[test]
+fn calls_of_sockets_are_refused(rt: HostRuntime) -> Result<(), Fail> {
+    on_both_kernels(&rt, &Refused)?;
+    Ok(())
+}
+
+/// Before that comes ESRCH, if the process is not there, and EBUSY, while the caller is parked.
+struct Before;
+
+impl Script for Before {
+    fn run<K: Kernel + Drop, R: Abort + AllocGlobal + Wait>(
+        &self,
+        rt: &R,
+        mut kernel: K,
+    ) -> Result<(), AllocError> {
+        let _ = call(&mut kernel, Call::EpollCreate { cloexec: false });
+        let parks = Call::EpollWait {
+            epfd: Fd(3),
+            max: 1,
+            timeout: Timeout(-1),
+        };
+        assert!(rt; call(&mut kernel, parks) == Answer::Parked);
+        refuses(rt, &mut kernel, of_listeners(), Errno::Ebusy);
+        refuses(rt, &mut kernel, asks_of(3), Errno::Ebusy);
+        for each in of_listeners() {
+            let event = Event::Call {
+                pid: Pid(2),
+                call: each,
+            };
+            assert!(rt; kernel.step(CallerId(0), event) == Answer::Refused(Errno::Esrch));
+        }
+        assert!(rt; is_run(rt.alloc(), &kernel, 17));
+        Ok(())
+    }
+}
+
+#[test]
+fn the_caller_comes_before_the_call(rt: HostRuntime) -> Result<(), Fail> {
+    on_both_kernels(&rt, &Before)?;
+    Ok(())
+}
