@@ -263,9 +263,29 @@ class Kernel:
         """Writes a byte so many times, at most 1,048,576."""
         return self._call("write", fd=fd, fill=[byte, count], by=by, pid=pid)["num"]
 
-    def shutdown(self, fd, *, by=0, pid=1):
-        """Shuts the writing of a socket."""
-        self._call("shutdown", fd=fd, by=by, pid=pid)
+    def peek(self, fd, n, *, by=0, pid=1):
+        """What a read of a socket would give, which stays there."""
+        return bytes.fromhex(self._call("peek", fd=fd, n=n, by=by, pid=pid)["bytes"])
+
+    def shutdown(self, fd, how="wr", *, by=0, pid=1):
+        """Shuts the reading of a socket, "rd", its writing, "wr", or both, "rdwr"."""
+        self._call("shutdown", fd=fd, how=how, by=by, pid=pid)
+
+    def take_error(self, fd, *, by=0, pid=1):
+        """The number of the error that waits at a socket, which is taken by this; 0 if none waits."""
+        return self._call("sockerr", fd=fd, by=by, pid=pid)["num"]
+
+    def sockname(self, fd, *, by=0, pid=1):
+        """The name of a socket, (space, number), or None if it has none."""
+        return self._name(self._call("sockname", fd=fd, by=by, pid=pid))
+
+    def peername(self, fd, *, by=0, pid=1):
+        """The name of the socket at the other end, or None if that has none."""
+        return self._name(self._call("peername", fd=fd, by=by, pid=pid))
+
+    @staticmethod
+    def _name(answer):
+        return answer["name"] and tuple(answer["name"])
 
     def settime(self, fd, value, interval=0, absolute=False, *, by=0, pid=1):
         """Sets a timer, and gives the value and the interval before, in seconds."""

@@ -410,19 +410,29 @@ static inline int nippersage_resume(struct nippersage *kernel, struct nippersage
     return status < 0 ? status : nippersage_reports(kernel, reports, max);
 }
 
-/* How many bytes were read, at most `count`; 0 at the end of a stream. */
-static inline int64_t nippersage_read(struct nippersage *kernel, int fd, void *bytes, uint32_t count) {
+/* A call that answers bytes, at most `count`: how many they are. */
+static inline int64_t nippersage_bytes(struct nippersage *kernel, const char *op, int fd, void *bytes, uint32_t count) {
     char rest[64];
     const char *digits;
     unsigned byte;
     int64_t taken = 0;
     int status;
     snprintf(rest, sizeof rest, ",\"fd\":%d,\"n\":%" PRIu32, fd, count);
-    status = nippersage_ask(kernel, "read", 1, rest);
+    status = nippersage_ask(kernel, op, 1, rest);
     if (status < 0) return status;
     digits = kernel->answer + strlen("{\"bytes\":\"");
     while (taken < count && sscanf(digits + 2 * taken, "%2x", &byte) == 1) ((unsigned char *)bytes)[taken++] = (unsigned char)byte;
     return taken;
+}
+
+/* How many bytes were read, at most `count`; 0 at the end of a stream. */
+static inline int64_t nippersage_read(struct nippersage *kernel, int fd, void *bytes, uint32_t count) {
+    return nippersage_bytes(kernel, "read", fd, bytes, count);
+}
+
+/* The same of a socket, whose bytes stay there. */
+static inline int64_t nippersage_peek(struct nippersage *kernel, int fd, void *bytes, uint32_t count) {
+    return nippersage_bytes(kernel, "peek", fd, bytes, count);
 }
 
 /* How many of the bytes were taken. */
@@ -456,9 +466,47 @@ static inline int nippersage_of_fd(struct nippersage *kernel, const char *op, in
     return nippersage_ask(kernel, op, 1, rest);
 }
 
-/* Shuts the writing of a socket. */
-static inline int nippersage_shutdown(struct nippersage *kernel, int fd) {
-    return nippersage_of_fd(kernel, "shutdown", fd);
+/* Shuts the reading of a socket, SHUT_RD, its writing, SHUT_WR, or both, SHUT_RDWR. -EINVAL for any other `how`, which is
+ * not sent. */
+static inline int nippersage_shutdown(struct nippersage *kernel, int fd, int how) {
+    const char *word = how == SHUT_RD ? "rd" : how == SHUT_WR ? "wr" : how == SHUT_RDWR ? "rdwr" : NULL;
+    char rest[64];
+    if (!word) return -EINVAL;
+    snprintf(rest, sizeof rest, ",\"fd\":%d,\"how\":\"%s\"", fd, word);
+    return nippersage_ask(kernel, "shutdown", 1, rest);
+}
+
+/* The number of the error that waits at a socket, which is taken by this; 0 if none waits. */
+static inline int64_t nippersage_take_error(struct nippersage *kernel, int fd) {
+    char rest[32];
+    snprintf(rest, sizeof rest, ",\"fd\":%d", fd);
+    return nippersage_number(kernel, "sockerr", rest);
+}
+
+/* The name of a socket: its space, "v4", "v6" or "local", and its number there. */
+struct nippersage_name {
+    char space[8];
+    uint32_t number;
+};
+
+/* A question for a name: 1 and the name, or 0 if there is none; then *name stays. */
+static inline int nippersage_name_by(struct nippersage *kernel, const char *op, int fd, struct nippersage_name *name) {
+    struct nippersage_name found;
+    int status = nippersage_of_fd(kernel, op, fd);
+    if (status < 0) return status;
+    if (sscanf(kernel->answer, "{\"name\":[\"%7[a-z0-9]\",%" SCNu32, found.space, &found.number) != 2) return 0;
+    *name = found;
+    return 1;
+}
+
+/* The name of a socket. Both ends of a socket pair have none. */
+static inline int nippersage_sockname(struct nippersage *kernel, int fd, struct nippersage_name *name) {
+    return nippersage_name_by(kernel, "sockname", fd, name);
+}
+
+/* The name of the socket at the other end. */
+static inline int nippersage_peername(struct nippersage *kernel, int fd, struct nippersage_name *name) {
+    return nippersage_name_by(kernel, "peername", fd, name);
 }
 
 /* Closes a descriptor. */

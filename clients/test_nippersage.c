@@ -199,15 +199,21 @@ static void processes(const char *path) {
 static void other_objects(const char *path) {
     struct nippersage kernel;
     int ends[2];
+    struct nippersage_name name = {"v4", 7};
     char bytes[8];
     EXPECT(nippersage_start(&kernel, path, "16,16,2,8,4096,4") == 0);
     EXPECT(nippersage_socketpair(&kernel, 0, ends) == 0 && ends[1] == 4);
-    EXPECT(nippersage_write(&kernel, 3, "abcde", 5) == 4 && nippersage_shutdown(&kernel, 3) == 0);
+    EXPECT(nippersage_write(&kernel, 3, "abcde", 5) == 4 && nippersage_shutdown(&kernel, 3, SHUT_WR) == 0);
     EXPECT(nippersage_write(&kernel, 3, "a", 1) == -EPIPE);
+    EXPECT(nippersage_peek(&kernel, 4, bytes, 2) == 2 && bytes[1] == 'b' && nippersage_take_error(&kernel, 4) == 0);
     EXPECT(nippersage_read(&kernel, 4, bytes, 8) == 4 && nippersage_read(&kernel, 4, bytes, 8) == 0);
+    EXPECT(nippersage_shutdown(&kernel, 3, SHUT_RD) == 0 && nippersage_write(&kernel, 4, "a", 1) == -EPIPE);
+    EXPECT(nippersage_shutdown(&kernel, 4, SHUT_RDWR) == 0 && nippersage_shutdown(&kernel, 4, 3) == -EINVAL);
+    EXPECT(nippersage_sockname(&kernel, 3, &name) == 0 && nippersage_peername(&kernel, 3, &name) == 0 && name.number == 7);
+    EXPECT(nippersage_sockname(&kernel, 0, &name) == -ENOTSOCK && nippersage_peername(&kernel, 9, &name) == -EBADF);
     EXPECT(nippersage_eventfd(&kernel, 2, 1, 0) == 5);
     EXPECT(nippersage_read(&kernel, 5, bytes, 8) == 8 && bytes[0] == 1);
-    EXPECT(nippersage_plain(&kernel, 0) == 6 && nippersage_shutdown(&kernel, 6) == -ENOTSOCK);
+    EXPECT(nippersage_plain(&kernel, 0) == 6 && nippersage_shutdown(&kernel, 6, SHUT_WR) == -ENOTSOCK);
     EXPECT(nippersage_end(&kernel) == 0);
 }
 

@@ -138,11 +138,17 @@ class Client(unittest.TestCase):
             self.assertEqual(kernel.write(left, b"abcde"), 4)
             kernel.shutdown(left)
             self.expect_refusal(errno.EPIPE, kernel.write, left, b"a")
+            self.assertEqual(kernel.peek(right, 2), b"ab")
             self.assertEqual(kernel.read(right, 8), b"abcd")
             self.assertEqual(kernel.read(right, 8), b"")
+            kernel.shutdown(left, "rd")
+            self.expect_refusal(errno.EPIPE, kernel.write, right, b"a")
+            kernel.shutdown(right, "rdwr")
+            self.assertEqual((kernel.take_error(left), kernel.sockname(left), kernel.peername(left)), (0, None, None))
             counter = kernel.eventfd(2, semaphore=True)
             self.assertEqual(kernel.read(counter, 8), bytes([1, 0, 0, 0, 0, 0, 0, 0]))
             self.expect_refusal(errno.ENOTSOCK, kernel.shutdown, kernel.plain())
+            self.expect_refusal(errno.ENOTSOCK, kernel.peek, counter, 1)
             kernel.close(right)
 
     def test_what_is_no_call(self):

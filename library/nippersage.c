@@ -19,6 +19,10 @@
 #define MOST_VECTORS 1024
 
 _Static_assert(NIPPERSAGE_PARKED == EP_PARKED, "a wait by hand hands the answer of the export on");
+_Static_assert((int)SHUT_RD == (int)EP_SHUT_READ && (int)SHUT_WR == (int)EP_SHUT_WRITE &&
+               (int)SHUT_RDWR == (int)EP_SHUT_BOTH, "a shutdown hands its word on");
+_Static_assert((int)NIPPERSAGE_V4 == (int)EP_V4 && (int)NIPPERSAGE_V6 == (int)EP_V6 &&
+               (int)NIPPERSAGE_LOCAL == (int)EP_LOCAL, "a name hands its space on");
 
 void kernel_enter(struct nippersage_kernel *kernel) {
     atomic_fetch_add(&kernel->inside, 1);
@@ -270,9 +274,29 @@ int nippersage_plain(struct nippersage_task task, int flags) {
 }
 
 int nippersage_shutdown(struct nippersage_task task, int fd, int how) {
-    if (how == SHUT_RD || how == SHUT_RDWR) return -EOPNOTSUPP;
-    if (how != SHUT_WR) return -EINVAL;
-    return (int)ASK(task, .event = EP_SHUTDOWN, .fd = fd);
+    if (how != SHUT_RD && how != SHUT_WR && how != SHUT_RDWR) return -EINVAL;
+    return (int)ASK(task, .event = EP_SHUTDOWN, .fd = fd, .number = how);
+}
+
+int nippersage_take_error(struct nippersage_task task, int fd) {
+    return (int)ASK(task, .event = EP_SOCKERR, .fd = fd);
+}
+
+static int name_of_socket(struct nippersage_task task, int fd, uint32_t flags, struct nippersage_name *name) {
+    struct exchange x = {.request = {.event = EP_SOCKNAME, .fd = fd, .flags = flags}};
+    int64_t result;
+    if (!name) return -EFAULT;
+    result = ask(task, &x);
+    if (result == 1) *name = (struct nippersage_name){x.reply.first, (uint32_t)x.reply.value};
+    return (int)result;
+}
+
+int nippersage_getsockname(struct nippersage_task task, int fd, struct nippersage_name *name) {
+    return name_of_socket(task, fd, 0, name);
+}
+
+int nippersage_getpeername(struct nippersage_task task, int fd, struct nippersage_name *name) {
+    return name_of_socket(task, fd, EP_PEER, name);
 }
 
 int nippersage_dup(struct nippersage_task task, int fd) { return (int)ASK(task, .event = EP_DUP, .fd = fd); }
@@ -291,13 +315,22 @@ int nippersage_close(struct nippersage_task task, int fd) { return (int)ASK(task
 
 /* ---- bytes ---- */
 
-ssize_t nippersage_read(struct nippersage_task task, int fd, void *bytes, size_t count) {
-    struct exchange x = {.request = {.event = EP_READ, .fd = fd}, .bytes = bytes};
+/* A read, or a peek. */
+static ssize_t bytes_at(struct nippersage_task task, uint32_t event, int fd, void *bytes, size_t count) {
+    struct exchange x = {.request = {.event = event, .fd = fd}, .bytes = bytes};
     if (!bytes && count > 0) return -EFAULT;
     if (count > MOST_BYTES) count = MOST_BYTES;
     x.request.count = (uint32_t)count;
     x.bytes_length = count;
     return (ssize_t)ask(task, &x);
+}
+
+ssize_t nippersage_read(struct nippersage_task task, int fd, void *bytes, size_t count) {
+    return bytes_at(task, EP_READ, fd, bytes, count);
+}
+
+ssize_t nippersage_peek(struct nippersage_task task, int fd, void *bytes, size_t count) {
+    return bytes_at(task, EP_PEEK, fd, bytes, count);
 }
 
 ssize_t nippersage_write(struct nippersage_task task, int fd, const void *bytes, size_t count) {

@@ -211,8 +211,28 @@ ssize_t nippersage_write(struct nippersage_task task, int fd, const void *bytes,
 ssize_t nippersage_readv(struct nippersage_task task, int fd, const struct iovec *vectors, int count);
 ssize_t nippersage_writev(struct nippersage_task task, int fd, const struct iovec *vectors, int count);
 
-/* shutdown(2). SHUT_WR; -EOPNOTSUPP for SHUT_RD and SHUT_RDWR, which the kernel hasn't. */
+/* shutdown(2) of the reading, SHUT_RD, the writing, SHUT_WR, or both, SHUT_RDWR. */
 int nippersage_shutdown(struct nippersage_task task, int fd, int how);
+
+/* recv(2) with MSG_PEEK: what a read of a socket would give, which stays there. -EAGAIN, -ENOTSOCK. */
+ssize_t nippersage_peek(struct nippersage_task task, int fd, void *bytes, size_t count);
+
+/* getsockopt(2) with SO_ERROR: the number of the error that waits at a socket, which is taken by this. 0 if none waits:
+ * at an end of a socket pair none ever does. -ENOTSOCK. */
+int nippersage_take_error(struct nippersage_task task, int fd);
+
+/* Where a name is one: a port of IPv4 or of IPv6, or a number that stands for a name of a Unix socket. */
+enum nippersage_space { NIPPERSAGE_V4, NIPPERSAGE_V6, NIPPERSAGE_LOCAL };
+
+struct nippersage_name {
+    int space; /* of enum nippersage_space */
+    uint32_t number;
+};
+
+/* getsockname(2), getpeername(2): 1 and the name of the socket, or of the one at the other end. 0 if that has none, as
+ * both ends of a socket pair; then *name stays. -ENOTSOCK. */
+int nippersage_getsockname(struct nippersage_task task, int fd, struct nippersage_name *name);
+int nippersage_getpeername(struct nippersage_task task, int fd, struct nippersage_name *name);
 
 /* dup(2), dup2(2), dup3(2). O_CLOEXEC in dup3 is -EOPNOTSUPP, which the kernel hasn't. */
 int nippersage_dup(struct nippersage_task task, int fd);

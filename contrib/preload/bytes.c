@@ -385,18 +385,13 @@ static void note_peer_shut(struct description *description) {
     unlock_table();
 }
 
-/* To shut a socket for reading is to shut its peer for writing. A peer that is closed is shut already. */
+/* Nothing is written any more to an end that is shut for reading. */
 static int shut(int fd, int how) {
     struct description *description = hold(fd);
-    int status = !description ? -EBADF : description->kind != SOCKET ? -ENOTSOCK : 0, peer;
-    if (status == 0 && (how < SHUT_RD || how > SHUT_RDWR)) status = -EINVAL;
-    if (status == 0 && how != SHUT_RD) status = nippersage_shutdown(self(), fd - FIRST, SHUT_WR);
+    int status = !description ? -EBADF : description->kind != SOCKET ? -ENOTSOCK : 0;
+    if (status == 0) status = nippersage_shutdown(self(), fd - FIRST, how);
     if (status == 0 && how != SHUT_RD) note_shut(description);
-    if (status == 0 && how != SHUT_WR) {
-        peer = number_of_peer(description);
-        if (peer >= 0) status = nippersage_shutdown(self(), peer, SHUT_WR);
-        if (status == 0) note_peer_shut(description);
-    }
+    if (status == 0 && how != SHUT_WR) note_peer_shut(description);
     if (description) let_go(description);
     return status;
 }

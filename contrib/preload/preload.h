@@ -391,7 +391,6 @@ bool try_lock_table(void);
 bool names(int fd, const struct description *description);
 /* A number of the kernel that names a description, or -1. The lock isn't held. */
 int number_that_names(const struct description *description);
-int number_of_peer(const struct description *description);
 
 /* ---- copies.c: all under the table's lock ---- */
 

@@ -184,15 +184,6 @@ int number_that_names(const struct description *description) {
     return number;
 }
 
-int number_of_peer(const struct description *description) {
-    int number;
-    QUIET;
-    pthread_mutex_lock(&lock);
-    number = description->peer ? number_of(description->peer) : -1;
-    pthread_mutex_unlock(&lock);
-    return number;
-}
-
 int make_own_instance(void) {
     int number;
     QUIET;

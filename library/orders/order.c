@@ -155,7 +155,7 @@ void order_note(struct order *order, struct nippersage_task task, const struct e
         step.second = x->reply.second;
         step.value = x->reply.value;
         step.interval = x->reply.interval;
-        if (x->request.event == EP_READ) memcpy(step.got, x->bytes, shown_of((uint64_t)result));
+        if (answer_of(&step) == BYTES) memcpy(step.got, x->bytes, shown_of((uint64_t)result));
     }
     if ((is_wait && result >= 0 && keep_reports(order, &step) < 0) || steps_put(order->now, &step) < 0) {
         order->lacks = 1;

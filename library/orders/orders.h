@@ -80,7 +80,7 @@ int is_same_call(const struct step *one, const struct step *other);
 void steps_free(struct steps *steps);
 
 /* What the answer of a call is made of. NOT_YET is that of a wait which goes on. */
-enum answer { NOT_YET, AN_ERROR, NOTHING, A_NUMBER, TWO_NUMBERS, TWO_TIMES, BYTES, REPORTS };
+enum answer { NOT_YET, AN_ERROR, NOTHING, A_NUMBER, TWO_NUMBERS, TWO_TIMES, BYTES, A_NAME, REPORTS };
 enum answer answer_of(const struct step *step);
 
 /* So many bytes of a read or write are known: those at its beginning. */

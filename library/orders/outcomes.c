@@ -51,6 +51,10 @@ static void put_answer(struct text *bytes, const struct steps *steps, const stru
         put_number(bytes, (uint64_t)step->result);
         text_put(bytes, step->got, shown_of((uint64_t)step->result));
         break;
+    case A_NAME:
+        put_number(bytes, (uint64_t)step->result);
+        if (step->result == 1) put_numbers(bytes, (uint64_t)step->first, step->value);
+        break;
     case REPORTS: put_reports(bytes, steps, step); break;
     }
 }

@@ -36,7 +36,10 @@ const char *error_name(int64_t number) {
         {ENOMEM, "ENOMEM"}, {EFAULT, "EFAULT"}, {EBUSY, "EBUSY"},   {EEXIST, "EEXIST"},   {EINVAL, "EINVAL"},
         {ENFILE, "ENFILE"}, {EMFILE, "EMFILE"}, {ENOSPC, "ENOSPC"}, {EPIPE, "EPIPE"},     {EDEADLK, "EDEADLK"},
         {ELOOP, "ELOOP"},   {EPROTO, "EPROTO"}, {EIO, "EIO"},       {ENOTSOCK, "ENOTSOCK"}, {EBADMSG, "EBADMSG"},
-        {EMSGSIZE, "EMSGSIZE"}, {EOPNOTSUPP, "EOPNOTSUPP"}, {ECANCELED, "ECANCELED"}, {ETIMEDOUT, "ETIMEDOUT"},
+        {EMSGSIZE, "EMSGSIZE"}, {EOPNOTSUPP, "EOPNOTSUPP"}, {EAFNOSUPPORT, "EAFNOSUPPORT"},
+        {EADDRINUSE, "EADDRINUSE"}, {EADDRNOTAVAIL, "EADDRNOTAVAIL"}, {ECONNABORTED, "ECONNABORTED"},
+        {ECONNRESET, "ECONNRESET"}, {EISCONN, "EISCONN"}, {ENOTCONN, "ENOTCONN"}, {ETIMEDOUT, "ETIMEDOUT"},
+        {ECONNREFUSED, "ECONNREFUSED"}, {EALREADY, "EALREADY"}, {ECANCELED, "ECANCELED"},
     };
     for (size_t i = 0; i < sizeof errors / sizeof errors[0]; i++)
         if (errors[i].number == number) return errors[i].name;
@@ -121,14 +124,21 @@ static void text_settime(struct text *text, const struct ep_request *request) {
     text_flag(text, request, EP_ABSOLUTE, "ABSTIME");
 }
 
+/* The writing is shut if no word says otherwise. */
+static void text_shutdown(struct text *text, const struct ep_request *request) {
+    text_add(text, "shutdown(%d", request->fd);
+    if (request->number == EP_SHUT_READ) text_add(text, ", SHUT_RD");
+    if (request->number == EP_SHUT_BOTH) text_add(text, ", SHUT_RDWR");
+}
+
 /* The name of a call with its words, up to the closing bracket. */
 static void text_words(struct text *text, const struct step *step) {
     static const char *const names[] = {
         [EP_PIPE] = "pipe2",       [EP_TIMERFD] = "timerfd_create", [EP_SOCKETPAIR] = "socketpair",
-        [EP_PLAIN] = "plain",      [EP_CREATE] = "epoll_create1",   [EP_SHUTDOWN] = "shutdown",
+        [EP_PLAIN] = "plain",      [EP_CREATE] = "epoll_create1",
         [EP_DUP] = "dup",          [EP_CLOSE] = "close",            [EP_FORK] = "fork",
         [EP_EXEC] = "execve",      [EP_EXIT] = "exit",              [EP_RESUME] = "resume",
-        [EP_GETTIME] = "timerfd_gettime",
+        [EP_GETTIME] = "timerfd_gettime",                           [EP_SOCKERR] = "take_error",
     };
     const struct ep_request *request = &step->request;
     switch (request->event) {
@@ -137,6 +147,10 @@ static void text_words(struct text *text, const struct step *step) {
     case EP_CTL: text_ctl(text, request); break;
     case EP_WAIT: text_wait(text, request); break;
     case EP_READ: text_add(text, "read(%d, %" PRIu32, request->fd, request->count); break;
+    case EP_PEEK: text_add(text, "peek(%d, %" PRIu32, request->fd, request->count); break;
+    case EP_SOCKNAME:
+        text_add(text, "get%sname(%d", request->flags & EP_PEER ? "peer" : "sock", request->fd);
+        break;
     case EP_WRITE:
         text_add(text, "write(%d, ", request->fd);
         text_bytes(text, step->given, step->given_length);
@@ -147,7 +161,8 @@ static void text_words(struct text *text, const struct step *step) {
         text_add(text, "tick(");
         text_time(text, request->value);
         break;
-    case EP_SHUTDOWN: case EP_DUP: case EP_CLOSE: case EP_GETTIME:
+    case EP_SHUTDOWN: text_shutdown(text, request); break;
+    case EP_DUP: case EP_CLOSE: case EP_GETTIME: case EP_SOCKERR:
         text_add(text, "%s(%d", names[request->event], request->fd);
         break;
     default: text_add(text, "%s(", names[request->event]);
@@ -179,10 +194,11 @@ enum answer answer_of(const struct step *step) {
     switch (step->request.event) {
     case EP_PIPE: case EP_SOCKETPAIR: return TWO_NUMBERS;
     case EP_WAIT: case EP_RESUME: return REPORTS;
-    case EP_READ: return BYTES;
+    case EP_READ: case EP_PEEK: return BYTES;
+    case EP_SOCKNAME: return A_NAME;
     case EP_SETTIME: case EP_GETTIME: return TWO_TIMES;
     case EP_EVENTFD: case EP_TIMERFD: case EP_PLAIN: case EP_CREATE: return A_NUMBER;
-    case EP_WRITE: case EP_DUP: case EP_DUP2: case EP_FORK: return A_NUMBER;
+    case EP_WRITE: case EP_DUP: case EP_DUP2: case EP_FORK: case EP_SOCKERR: return A_NUMBER;
     default: return NOTHING;
     }
 }
@@ -195,6 +211,14 @@ static void text_times(struct text *text, const struct step *step) {
     text_add(text, ")");
 }
 
+static void text_name(struct text *text, const struct step *step) {
+    static const char *const spaces[] = {[EP_V4] = "v4", [EP_V6] = "v6", [EP_LOCAL] = "local"};
+    if (step->result == 0)
+        text_add(text, "no name");
+    else
+        text_add(text, "(%s, %" PRIu64 ")", spaces[step->first], step->value);
+}
+
 void text_answer(struct text *text, const struct steps *steps, const struct step *step) {
     switch (answer_of(step)) {
     case NOT_YET: text_add(text, step->request.event == EP_WAIT ? "sleeps" : "sleeps on"); break;
@@ -204,6 +228,7 @@ void text_answer(struct text *text, const struct steps *steps, const struct step
     case TWO_NUMBERS: text_add(text, "(%d, %d)", step->first, step->second); break;
     case TWO_TIMES: text_times(text, step); break;
     case BYTES: text_bytes(text, step->got, (uint64_t)step->result); break;
+    case A_NAME: text_name(text, step); break;
     case REPORTS: text_reports(text, steps, step); break;
     }
 }

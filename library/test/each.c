@@ -103,12 +103,52 @@ static void vectors(void) {
     IS(nippersage_writev(one, ends[0], NULL, 1), -EFAULT);
     IS(nippersage_writev(one, ends[0], out, 1025), -EINVAL);
     IS(nippersage_shutdown(one, ends[0], SHUT_WR), 0);
-    IS(nippersage_shutdown(one, ends[0], SHUT_RD), -EOPNOTSUPP);
     IS(nippersage_shutdown(one, ends[0], 9), -EINVAL);
     IS(nippersage_shutdown(one, 0, SHUT_WR), -ENOTSOCK);
     IS(nippersage_readv(one, ends[1], in, 3), 0);
+    IS(nippersage_write(one, ends[1], "ab", 2), 2);
+    IS(nippersage_shutdown(one, ends[0], SHUT_RD), 0);
+    IS(nippersage_write(one, ends[1], "c", 1), -EPIPE);
+    IS(nippersage_read(one, ends[0], first, 2), 2);
+    IS(nippersage_read(one, ends[0], first, 2), 0);
+    IS(nippersage_shutdown(one, ends[1], SHUT_RDWR), 0);
     IS(nippersage_close(one, ends[0]), 0);
     IS(nippersage_close(one, ends[1]), 0);
+}
+
+/* What a socket alone is asked. */
+static void sockets(void) {
+    struct nippersage_name name = {7, 7};
+    char bytes[8];
+    int ends[2], counter = nippersage_eventfd(one, 1, 0);
+    IS(nippersage_socketpair(one, AF_UNIX, SOCK_STREAM, 0, ends), 0);
+    IS(nippersage_peek(one, ends[1], bytes, 8), -EAGAIN);
+    IS(nippersage_peek(one, ends[1], bytes, 0), 0);
+    IS(nippersage_write(one, ends[0], "abcde", 5), 5);
+    for (int i = 0; i < 2; i++) {
+        memset(bytes, 'x', sizeof bytes);
+        IS(nippersage_peek(one, ends[1], bytes, 3), 3);
+        IS(memcmp(bytes, "abcxxxxx", 8), 0);
+    }
+    IS(nippersage_peek(one, ends[1], NULL, 1), -EFAULT);
+    IS(nippersage_peek(one, counter, bytes, 8), -ENOTSOCK);
+    IS(nippersage_peek(one, 77, bytes, 8), -EBADF);
+    IS(nippersage_read(one, ends[1], bytes, 8), 5);
+    IS(memcmp(bytes, "abcde", 5), 0);
+    IS(nippersage_close(one, ends[0]), 0);
+    IS(nippersage_peek(one, ends[1], bytes, 8), 0);
+    IS(nippersage_take_error(one, ends[1]), 0);
+    IS(nippersage_take_error(one, counter), -ENOTSOCK);
+    IS(nippersage_take_error(one, 77), -EBADF);
+    IS(nippersage_getsockname(one, ends[1], &name), 0);
+    IS(nippersage_getpeername(one, ends[1], &name), 0);
+    IS(name.space == 7 && name.number == 7, 1);
+    IS(nippersage_getsockname(one, counter, &name), -ENOTSOCK);
+    IS(nippersage_getpeername(one, 77, &name), -EBADF);
+    IS(nippersage_getsockname(one, ends[1], NULL), -EFAULT);
+    IS(nippersage_getpeername(one, ends[1], NULL), -EFAULT);
+    IS(nippersage_close(one, ends[1]), 0);
+    IS(nippersage_close(one, counter), 0);
 }
 
 static void counters(void) {
@@ -759,6 +799,7 @@ int main(int argc, char **argv) {
     opening();
     pipes();
     vectors();
+    sockets();
     counters();
     timers();
     bounds();

@@ -225,6 +225,49 @@ static void message(void) {
     nippersage_result_free(&result);
 }
 
+static int socket_pair(struct nippersage_kernel *kernel, void *shared) {
+    struct shared *e = start(shared);
+    int ends[2];
+    TRY(nippersage_socketpair((struct nippersage_task){kernel, 0, 1}, AF_UNIX, SOCK_STREAM, 0, ends));
+    e->reader = ends[0];
+    e->writer = ends[1];
+    return 0;
+}
+
+static int asks_a_socket(struct nippersage_task task, void *shared) {
+    const struct shared *e = shared;
+    struct nippersage_name name;
+    char bytes[8];
+    nippersage_peek(task, e->reader, bytes, 3);
+    nippersage_write(task, e->writer, "ping", 4);
+    nippersage_peek(task, e->reader, bytes, 3);
+    nippersage_take_error(task, e->reader);
+    nippersage_getsockname(task, e->reader, &name);
+    nippersage_getpeername(task, 0, &name);
+    nippersage_shutdown(task, e->reader, SHUT_RDWR);
+    return nippersage_fail(task, "told");
+}
+
+/* What a socket alone is asked, told line by line. Blanks that only fill columns are left out. */
+static void words_of_sockets(void) {
+    struct example example = {.setup = socket_pair, .tasks = {{.name = "t", .run = asks_a_socket}}, .count = 1};
+    struct nippersage_result result = explore(&example, NULL, 1);
+    char *to = result.message;
+    for (const char *from = result.message; *from; from++)
+        if (*from != ' ' || (to > result.message && to[-1] != ' ')) *to++ = *from;
+    *to = 0;
+    has_text(result.message,
+             " setup socketpair() (3, 4)\n"
+             " 1 t peek(3, 3) EAGAIN\n"
+             " 2 t write(4, \"ping\") 4\n"
+             " 3 t peek(3, 3) \"pin\"\n"
+             " 4 t take_error(3) 0\n"
+             " 5 t getsockname(3) no name\n"
+             " 6 t getpeername(0) ENOTSOCK\n"
+             " 7 t shutdown(3, SHUT_RDWR)\n");
+    nippersage_result_free(&result);
+}
+
 /* The clock of its own accord: 6 orders if it goes only when nobody can, and 12 if at any point, of which 2 close the
    reader's end before a write. library/python/tests/test_orders.py counts them by hand. Three of the 12 close in some
    place once the time has passed before a; without a close these are one. */
@@ -665,6 +708,7 @@ int main(int argc, char **argv) {
     limits();
     faults();
     message();
+    words_of_sockets();
     clocks();
     beside();
     by_hand();

@@ -20,7 +20,7 @@ and refuses. `nippersage.orders` tries orders of what callers do.
 
 from ._kernel import Kernel, Part, Task
 from ._library import LIBRARY, library_version
-from ._numbers import Ended, Illegal, Limits, Mask, Waiter, Watch
+from ._numbers import Ended, Illegal, Limits, Mask, Name, Waiter, Watch
 from ._program import AUDITOR, LONGEST_LINE, MOST_CALLS, PROGRAM, audit
 from ._selector import Selector
 
@@ -31,6 +31,6 @@ EXCLUSIVE, WAKEUP, ONESHOT, ET = Mask.EXCLUSIVE, Mask.WAKEUP, Mask.ONESHOT, Mask
 
 __all__ = [
     "IN", "PRI", "OUT", "ERR", "HUP", "RDHUP", "EXCLUSIVE", "WAKEUP", "ONESHOT", "ET", "Mask",
-    "Kernel", "Task", "Part", "Selector", "Limits", "Waiter", "Watch", "Ended", "Illegal", "audit",
+    "Kernel", "Task", "Part", "Selector", "Limits", "Name", "Waiter", "Watch", "Ended", "Illegal", "audit",
     "library_version", "LIBRARY", "PROGRAM", "AUDITOR", "MOST_CALLS", "LONGEST_LINE",
 ]

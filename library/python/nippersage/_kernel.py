@@ -8,7 +8,8 @@ from typing import Any, Callable, List, Optional, Sequence, Tuple, Type, Union
 
 from . import _library
 from ._library import Library
-from ._numbers import Report, Time, Waiter, Watch, long, masked, number, octets, seconds, units, unsigned, within
+from ._numbers import HOWS, Name, Report, Time, Waiter, Watch
+from ._numbers import long, masked, number, octets, one_of, seconds, units, unsigned, within
 from ._program import Program
 
 _ADD, _DEL, _MOD = 1, 2, 3
@@ -143,9 +144,25 @@ class Task:
         byte, count = within("byte", byte, 0, 255), within("count", count, 0, _MOST_FILLED)
         return self._backend.fill(self._who(by, pid), number("fd", fd), byte, count)
 
-    def shutdown(self, fd: int, *, by: Optional[int] = None, pid: Optional[int] = None) -> None:
-        """Shuts the writing of a socket."""
-        self._backend.shutdown(self._who(by, pid), number("fd", fd))
+    def shutdown(self, fd: int, how: str = "wr", *, by: Optional[int] = None, pid: Optional[int] = None) -> None:
+        """Shuts the reading of a socket, "rd", its writing, "wr", or both, "rdwr"."""
+        self._backend.shutdown(self._who(by, pid), number("fd", fd), one_of("how", how, HOWS))
+
+    def peek(self, fd: int, n: int, *, by: Optional[int] = None, pid: Optional[int] = None) -> bytes:
+        """What a read of a socket would give, at most n bytes, which stay there."""
+        return self._backend.peek(self._who(by, pid), number("fd", fd), unsigned("n", n))
+
+    def take_error(self, fd: int, *, by: Optional[int] = None, pid: Optional[int] = None) -> int:
+        """The number of the error that waits at a socket, which is taken by this. 0 if none waits."""
+        return self._backend.take_error(self._who(by, pid), number("fd", fd))
+
+    def sockname(self, fd: int, *, by: Optional[int] = None, pid: Optional[int] = None) -> Optional[Name]:
+        """The name of a socket. None if it has none, as both ends of a socket pair."""
+        return self._backend.sockname(self._who(by, pid), number("fd", fd))
+
+    def peername(self, fd: int, *, by: Optional[int] = None, pid: Optional[int] = None) -> Optional[Name]:
+        """The name of the socket at the other end. None if that has none."""
+        return self._backend.peername(self._who(by, pid), number("fd", fd))
 
     def settime(
         self, fd: int, value: Time, interval: Time = 0, absolute: bool = False,

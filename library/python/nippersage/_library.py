@@ -11,7 +11,7 @@ from ctypes import (
 )
 from typing import IO, Any, Callable, Dict, List, Optional, Sequence, Tuple
 
-from ._numbers import UNITS, Ended, Limits, Waiter, Watch, limits_of, refusal, seconds, watch_of
+from ._numbers import HOWS, SPACES, UNITS, Ended, Limits, Name, Waiter, Watch, limits_of, refusal, seconds, watch_of
 
 _HERE = os.path.dirname(os.path.abspath(__file__))
 
@@ -20,7 +20,7 @@ _EINVAL, _EDEADLK = 22, 35
 #: Of how many callers EDEADLK tells where they wait, and of how many registrations what is there.
 _MOST_TOLD = 8
 _CLOEXEC, _SEMAPHORE, _ABSTIME = 0o2000000, 1, 1
-_AF_UNIX, _SOCK_STREAM, _SHUT_WR = 1, 1, 1
+_AF_UNIX, _SOCK_STREAM = 1, 1
 #: No read gives more bytes: the largest capacity of a pipe or socket.
 _MOST_READ = 1_048_576
 #: `struct epoll_event`, which Linux packs on x86-64.
@@ -68,6 +68,10 @@ class _Itimerspec(ctypes.Structure):
     _fields_ = [("interval", _Timespec), ("value", _Timespec)]
 
 
+class _Name(ctypes.Structure):
+    _fields_ = [("space", c_int), ("number", c_uint32)]
+
+
 class _Waiter(ctypes.Structure):
     _fields_ = [
         ("caller", c_uint32), ("pid", c_uint64), ("epfd", c_int), ("most", c_int), ("has_timeout", c_int),
@@ -111,6 +115,9 @@ _TAKEN: Dict[str, Tuple[Any, ...]] = {
     "watches": (Who, c_int, c_void_p, c_int),
     "watches_awaited": (c_void_p, c_uint32, c_void_p, c_int),
     "shutdown": (Who, c_int, c_int),
+    "take_error": (Who, c_int),
+    "getsockname": (Who, c_int, POINTER(_Name)),
+    "getpeername": (Who, c_int, POINTER(_Name)),
     "dup": (Who, c_int),
     "dup2": (Who, c_int, c_int),
     "close": (Who, c_int),
@@ -121,12 +128,15 @@ _TAKEN: Dict[str, Tuple[Any, ...]] = {
     "stream": (c_void_p, c_int),
     "check": (c_void_p,),
     "read": (Who, c_int, c_void_p, c_size_t),
+    "peek": (Who, c_int, c_void_p, c_size_t),
     "write": (Who, c_int, c_char_p, c_size_t),
     "fork": (Who,),
     "free": (c_void_p,),
     "version": (),
 }
-_ANSWERED = {"read": c_ssize_t, "write": c_ssize_t, "fork": c_int64, "free": None, "version": c_char_p}
+_ANSWERED = {
+    "read": c_ssize_t, "peek": c_ssize_t, "write": c_ssize_t, "fork": c_int64, "free": None, "version": c_char_p,
+}
 
 
 class _Functions:
@@ -295,14 +305,32 @@ class Library:
         room = _room(most)
         return room[: self._done(self._f.read(who, fd, room, most))]
 
+    def peek(self, who: Who, fd: int, n: int) -> bytes:
+        most = n if n < _MOST_READ else _MOST_READ
+        room = _room(most)
+        return room[: self._done(self._f.peek(who, fd, room, most))]
+
     def write(self, who: Who, fd: int, data: bytes) -> int:
         return self._done(self._f.write(who, fd, data, len(data)))
 
     def fill(self, who: Who, fd: int, byte: int, count: int) -> int:
         return self.write(who, fd, bytes((byte,)) * count)
 
-    def shutdown(self, who: Who, fd: int) -> None:
-        self._done(self._f.shutdown(who, fd, _SHUT_WR))
+    def shutdown(self, who: Who, fd: int, how: str) -> None:
+        self._done(self._f.shutdown(who, fd, HOWS[how]))
+
+    def take_error(self, who: Who, fd: int) -> int:
+        return self._done(self._f.take_error(who, fd))
+
+    def sockname(self, who: Who, fd: int) -> Optional[Name]:
+        return self._name(self._f.getsockname, who, fd)
+
+    def peername(self, who: Who, fd: int) -> Optional[Name]:
+        return self._name(self._f.getpeername, who, fd)
+
+    def _name(self, ask: Callable[..., int], who: Who, fd: int) -> Optional[Name]:
+        name = _Name()
+        return Name(SPACES[name.space], name.number) if self._done(ask(who, fd, byref(name))) else None
 
     def settime(self, who: Who, fd: int, value: int, interval: int, absolute: bool) -> Tuple[int, int]:
         given = _Itimerspec(_timespec(interval), _timespec(value))

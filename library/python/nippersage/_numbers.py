@@ -56,11 +56,16 @@ _UNIT = timedelta(microseconds=1)
 #: The most seconds of a time. A number of 64 bits holds so many units, and the clock doesn't go so far.
 _LONGEST = (1 << 63) // UNITS
 
+#: What shutdown(2) shuts, as Linux numbers it.
+HOWS = {"rd": 0, "wr": 1, "rdwr": 2}
+
 #: The names of the error numbers of Linux that a call may answer.
 NAMES = {
     1: "EPERM", 2: "ENOENT", 3: "ESRCH", 9: "EBADF", 11: "EAGAIN", 12: "ENOMEM", 14: "EFAULT",
     16: "EBUSY", 17: "EEXIST", 22: "EINVAL", 23: "ENFILE", 24: "EMFILE", 28: "ENOSPC", 32: "EPIPE",
-    35: "EDEADLK", 40: "ELOOP", 74: "EBADMSG", 88: "ENOTSOCK", 90: "EMSGSIZE",
+    35: "EDEADLK", 40: "ELOOP", 74: "EBADMSG", 88: "ENOTSOCK", 90: "EMSGSIZE", 97: "EAFNOSUPPORT",
+    98: "EADDRINUSE", 99: "EADDRNOTAVAIL", 103: "ECONNABORTED", 104: "ECONNRESET", 106: "EISCONN",
+    107: "ENOTCONN", 111: "ECONNREFUSED", 114: "EALREADY",
 }
 
 
@@ -105,6 +110,17 @@ def limits_of(limits: Optional[Sequence[int]]) -> Limits:
         if not least <= whole(name, value) <= most:
             raise OSError(errno.EINVAL, f"EINVAL: {name} is {value}, and goes from {least} to {most}")
     return own
+
+
+class Name(NamedTuple):
+    """The name of a socket: a port of IPv4, "v4", or IPv6, "v6", or a number that stands for a Unix name, "local"."""
+
+    space: str
+    number: int
+
+
+#: The spaces of names, as the library numbers them.
+SPACES = ("v4", "v6", "local")
 
 
 class Waiter(NamedTuple):
@@ -192,6 +208,13 @@ def unsigned(name: str, value: int) -> int:
 def long(name: str, value: int) -> int:
     """A number of 64 bits without a sign."""
     return within(name, value, 0, (1 << 64) - 1)
+
+
+def one_of(name: str, value: str, words: Iterable[str]) -> str:
+    """The value, which has to be one of these words."""
+    if value not in words:
+        raise ValueError(f"{name} is one of {', '.join(map(repr, words))}, and not {value!r}")
+    return value
 
 
 def octets(name: str, value: bytes) -> bytes:

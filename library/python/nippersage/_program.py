@@ -9,7 +9,7 @@ import shutil
 import subprocess
 from typing import Any, Dict, List, Optional, Sequence, Tuple
 
-from ._numbers import Ended, Illegal, limits_of
+from ._numbers import Ended, Illegal, Name, limits_of
 
 #: The first line of a run, which is its own answer: the times of the others are in microseconds.
 _HEADER = b'{"version":2}\n'
@@ -185,8 +185,24 @@ class Program:
     def fill(self, who: Who, fd: int, byte: int, count: int) -> int:
         return self._call("write", who, fd=fd, fill=[byte, count])["num"]
 
-    def shutdown(self, who: Who, fd: int) -> None:
-        self._call("shutdown", who, fd=fd)
+    def shutdown(self, who: Who, fd: int, how: str) -> None:
+        self._call("shutdown", who, fd=fd, how=how)
+
+    def peek(self, who: Who, fd: int, n: int) -> bytes:
+        return bytes.fromhex(self._call("peek", who, fd=fd, n=n)["bytes"])
+
+    def take_error(self, who: Who, fd: int) -> int:
+        return self._call("sockerr", who, fd=fd)["num"]
+
+    def sockname(self, who: Who, fd: int) -> Optional[Name]:
+        return self._name(self._call("sockname", who, fd=fd))
+
+    def peername(self, who: Who, fd: int) -> Optional[Name]:
+        return self._name(self._call("peername", who, fd=fd))
+
+    @staticmethod
+    def _name(answer: Dict[str, Any]) -> Optional[Name]:
+        return Name(*answer["name"]) if answer["name"] else None
 
     def settime(self, who: Who, fd: int, value: int, interval: int, absolute: bool) -> Tuple[int, int]:
         keys = {"value": value, "interval": interval, "abs": absolute}

@@ -85,7 +85,32 @@ class Calls:
             self.expect_refusal(errno.EPIPE, kernel.write, left, b"a")
             self.assertEqual(kernel.read(right, 8), b"abcd")
             self.assertEqual(kernel.read(right, 8), b"")
+            kernel.shutdown(left, "rd")
+            self.expect_refusal(errno.EPIPE, kernel.write, right, b"a")
+            kernel.shutdown(right, "rdwr")
+            self.assertEqual(kernel.read(left, 8), b"")
             self.expect_refusal(errno.ENOTSOCK, kernel.shutdown, kernel.plain())
+            for how in ("both", "", 1):
+                with self.assertRaises(ValueError):
+                    kernel.shutdown(left, how)
+
+    def test_what_a_socket_alone_is_asked(self):
+        with self.make() as kernel:
+            left, right = kernel.socketpair()
+            self.expect_refusal(errno.EAGAIN, kernel.peek, right, 8)
+            self.assertEqual(kernel.peek(right, 0), b"")
+            kernel.write(left, b"abcde")
+            self.assertEqual(kernel.peek(right, 3), b"abc")
+            self.assertEqual(kernel.peek(right, 4_294_967_295), b"abcde")
+            self.assertEqual(kernel.read(right, 8), b"abcde")
+            kernel.close(left)
+            self.assertEqual(kernel.peek(right, 8), b"")
+            self.assertEqual(kernel.take_error(right), 0)
+            self.assertIsNone(kernel.sockname(right))
+            self.assertIsNone(kernel.peername(right))
+            for ask in (lambda fd: kernel.peek(fd, 1), kernel.take_error, kernel.sockname, kernel.peername):
+                self.expect_refusal(errno.ENOTSOCK, ask, 0)
+                self.expect_refusal(errno.EBADF, ask, left)
 
     def test_counters(self):
         with self.make() as kernel:

@@ -68,8 +68,13 @@ class Messages(unittest.TestCase):
             t.settime(e.timer, 0.0015, interval=2)
             t.gettime(e.timer)
             t.write(e.ends[0], bytes(30))
+            t.peek(e.ends[1], 3)
             t.read(e.ends[1], 2)
             t.shutdown(e.ends[0])
+            t.shutdown(e.ends[0], "rd")
+            t.take_error(e.ends[0])
+            t.sockname(e.ends[0])
+            t.peername(e.ends[0])
             t.dup2(e.counter, 9)
             try:
                 t.close(77)
@@ -82,8 +87,10 @@ class Messages(unittest.TestCase):
         self.assertEqual(table, [
             ["socketpair()", "(3, 4)"], ["eventfd(7)", "5"], ["timerfd(cloexec=True)", "6"],
             ["settime(6, 0.0015, 2)", "(0, 0)"], ["gettime(6)", "(0.0015, 2)"],
-            ["write(3, " + repr(bytes(24)) + ".. (30 bytes))", "30"], ["read(4, 2)", repr(bytes(2))],
-            ["task", "shutdown(3)"], ["dup2(5, 9)", "9"], ["close(77)", "EBADF"], ["epoll()", "7"],
+            ["write(3, " + repr(bytes(24)) + ".. (30 bytes))", "30"], ["peek(4, 3)", repr(bytes(3))],
+            ["read(4, 2)", repr(bytes(2))], ["task", "shutdown(3)"], ["task", "shutdown(3, 'rd')"],
+            ["take_error(3)", "0"], ["sockname(3)", "no name"], ["peername(3)", "no name"],
+            ["dup2(5, 9)", "9"], ["close(77)", "EBADF"], ["epoll()", "7"],
             ["mod(7, 3, 0, 0)", "ENOENT"],
         ])
         self.assertEqual(failure.why, "task raised FileNotFoundError: [Errno 2] ENOENT")

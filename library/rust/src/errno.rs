@@ -54,6 +54,15 @@ numbers! {
     ENOTSOCK = 88, "socket operation on non-socket";
     EMSGSIZE = 90, "message too long";
     EOPNOTSUPP = 95, "operation not supported";
+    EAFNOSUPPORT = 97, "address family not supported";
+    EADDRINUSE = 98, "address already in use";
+    EADDRNOTAVAIL = 99, "cannot assign requested address";
+    ECONNABORTED = 103, "software caused connection abort";
+    ECONNRESET = 104, "connection reset by peer";
+    EISCONN = 106, "endpoint is already connected";
+    ENOTCONN = 107, "endpoint is not connected";
+    ECONNREFUSED = 111, "connection refused";
+    EALREADY = 114, "operation already in progress";
     ECANCELED = 125, "operation canceled";
 }
 

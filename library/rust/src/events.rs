@@ -26,9 +26,10 @@ impl Events {
     pub const OUT: Events = Events(1 << 2);
     /// The read end of a pipe is closed. It is reported whether it is asked for or not.
     pub const ERR: Events = Events(1 << 3);
-    /// The other end is closed. It is reported whether it is asked for or not.
+    /// The other end is closed, or a socket is shut both ways. It is reported whether it is asked for
+    /// or not.
     pub const HUP: Events = Events(1 << 4);
-    /// The peer of a socket will write no more.
+    /// Nothing more comes to a socket: its peer will write no more, or it reads no more.
     pub const RDHUP: Events = Events(1 << 13);
     /// Of the exclusive registrations on a target, wake one. It is for `epoll_add` alone, and may stand beside `IN`,
     /// `OUT`, `ERR`, `HUP`, `WAKEUP` and `ET`. Anything else is refused with EINVAL, and so is an instance as target,

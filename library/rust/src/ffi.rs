@@ -37,6 +37,14 @@ pub struct Itimerspec {
     pub value: Timespec,
 }
 
+/// A name of a socket: its space, 0 to 2, and its number there.
+#[repr(C)]
+#[derive(Clone, Copy)]
+pub struct Name {
+    pub space: c_int,
+    pub number: u32,
+}
+
 /// A parked caller, and its wait.
 #[repr(C)]
 #[derive(Clone, Copy)]
@@ -253,6 +261,10 @@ extern "C" {
     pub fn nippersage_readv(task: Task, fd: c_int, vectors: *const c_void, count: c_int) -> isize;
     pub fn nippersage_writev(task: Task, fd: c_int, vectors: *const c_void, count: c_int) -> isize;
     pub fn nippersage_shutdown(task: Task, fd: c_int, how: c_int) -> c_int;
+    pub fn nippersage_peek(task: Task, fd: c_int, bytes: *mut c_void, count: usize) -> isize;
+    pub fn nippersage_take_error(task: Task, fd: c_int) -> c_int;
+    pub fn nippersage_getsockname(task: Task, fd: c_int, name: *mut Name) -> c_int;
+    pub fn nippersage_getpeername(task: Task, fd: c_int, name: *mut Name) -> c_int;
 
     pub fn nippersage_dup(task: Task, fd: c_int) -> c_int;
     pub fn nippersage_dup2(task: Task, fd: c_int, to: c_int) -> c_int;

@@ -64,6 +64,26 @@ impl BitOr for Flags {
     }
 }
 
+/// Where the name of a socket is one.
+#[derive(Clone, Copy, Debug, PartialEq, Eq, Hash, PartialOrd, Ord)]
+pub enum Space {
+    /// Ports of IPv4.
+    V4,
+    /// Ports of IPv6.
+    V6,
+    /// Numbers that stand for names of Unix sockets.
+    Local,
+}
+
+/// The name of a socket.
+#[derive(Clone, Copy, Debug, PartialEq, Eq, Hash, PartialOrd, Ord)]
+pub struct Name {
+    /// Where it is a name.
+    pub space: Space,
+    /// A port, or a number that stands for a name.
+    pub number: u32,
+}
+
 /// Which clock a timer goes by. Both are the one simulated clock.
 #[derive(Clone, Copy, Debug, PartialEq, Eq)]
 pub enum Clock {
@@ -272,8 +292,7 @@ impl Task<'_> {
         })
     }
 
-    /// shutdown(2) of a socket's writing. EBADF, ENOTSOCK, and EOPNOTSUPP for the other two, which
-    /// the kernel hasn't.
+    /// shutdown(2) of a socket's reading, its writing, or both. EBADF, ENOTSOCK.
     pub fn shutdown(self, fd: impl Into<Fd>, how: Shutdown) -> Result<(), Errno> {
         let how = match how {
             Shutdown::Read => 0,
@@ -282,6 +301,45 @@ impl Task<'_> {
         };
         // SAFETY: numbers only.
         done(unsafe { ffi::nippersage_shutdown(self.raw(), fd.into().0, how) })
+    }
+
+    /// recv(2) with MSG_PEEK: how many bytes a read of a socket would give, which stay there. EBADF,
+    /// ENOTSOCK, EAGAIN.
+    pub fn peek(self, fd: impl Into<Fd>, bytes: &mut [u8]) -> Result<usize, Errno> {
+        let (room, most) = (bytes.as_mut_ptr().cast(), bytes.len());
+        // SAFETY: there is room for so many bytes.
+        count(unsafe { ffi::nippersage_peek(self.raw(), fd.into().0, room, most) })
+    }
+
+    /// getsockopt(2) with SO_ERROR: takes the error that waits at a socket. At an end of a socket
+    /// pair none ever does. EBADF, ENOTSOCK.
+    pub fn take_error(self, fd: impl Into<Fd>) -> Result<Option<Errno>, Errno> {
+        // SAFETY: numbers only.
+        let number = checked(unsafe { ffi::nippersage_take_error(self.raw(), fd.into().0) })?;
+        Ok((number != 0).then(|| Errno::new(number as i32)))
+    }
+
+    /// getsockname(2): the name of a socket, if it has one. An end of a socket pair has none. EBADF,
+    /// ENOTSOCK.
+    pub fn getsockname(self, fd: impl Into<Fd>) -> Result<Option<Name>, Errno> {
+        let mut name = ffi::Name {
+            space: 0,
+            number: 0,
+        };
+        // SAFETY: the pointer is to a live value.
+        let told = unsafe { ffi::nippersage_getsockname(self.raw(), fd.into().0, &mut name) };
+        named(told, name)
+    }
+
+    /// getpeername(2): the name of the socket at the other end, if it has one. EBADF, ENOTSOCK.
+    pub fn getpeername(self, fd: impl Into<Fd>) -> Result<Option<Name>, Errno> {
+        let mut name = ffi::Name {
+            space: 0,
+            number: 0,
+        };
+        // SAFETY: as in `getsockname`.
+        let told = unsafe { ffi::nippersage_getpeername(self.raw(), fd.into().0, &mut name) };
+        named(told, name)
     }
 
     /// dup(2): the lowest free number, for the same file. EBADF, EMFILE.
@@ -453,6 +511,17 @@ fn descriptor(result: c_int) -> Result<Fd, Errno> {
 
 fn count(result: isize) -> Result<usize, Errno> {
     checked(result as i64).map(|count| count as usize)
+}
+
+/// The name, where the result says that there is one.
+fn named(result: c_int, name: ffi::Name) -> Result<Option<Name>, Errno> {
+    let space = match name.space {
+        0 => Space::V4,
+        1 => Space::V6,
+        _ => Space::Local,
+    };
+    let number = name.number;
+    Ok((checked(result)? == 1).then_some(Name { space, number }))
 }
 
 fn polled(result: c_int) -> Result<Poll<usize>, Errno> {

@@ -93,10 +93,43 @@ fn sockets() {
         Err(Errno::EAGAIN)
     );
     task.shutdown(left, Shutdown::Write).unwrap();
-    assert_eq!(task.shutdown(left, Shutdown::Both), Err(Errno::EOPNOTSUPP));
     assert_eq!(task.shutdown(0, Shutdown::Write), Err(Errno::ENOTSOCK));
     assert_eq!(task.writev(left, &[IoSlice::new(b"a")]), Err(Errno::EPIPE));
     assert_eq!(task.read(right, &mut second), Ok(0));
+    assert_eq!(task.write(right, b"ab"), Ok(2));
+    task.shutdown(left, Shutdown::Read).unwrap();
+    assert_eq!(task.write(right, b"c"), Err(Errno::EPIPE));
+    assert_eq!(task.read(left, &mut second), Ok(2));
+    assert_eq!(task.read(left, &mut second), Ok(0));
+    task.shutdown(right, Shutdown::Both).unwrap();
+}
+
+#[test]
+fn what_a_socket_alone_is_asked() {
+    let kernel = Kernel::new().unwrap();
+    let task = kernel.task(0);
+    let (left, right) = task.socketpair(Flags::NONE).unwrap();
+    let mut bytes = *b"xxxxx";
+    assert_eq!(task.peek(right, &mut bytes), Err(Errno::EAGAIN));
+    assert_eq!(task.peek(right, &mut []), Ok(0));
+    task.write(left, b"abcde").unwrap();
+    assert_eq!(task.peek(right, &mut bytes[..3]), Ok(3));
+    assert_eq!(bytes, *b"abcxx");
+    assert_eq!(task.read(right, &mut bytes), Ok(5));
+    assert_eq!(bytes, *b"abcde");
+    task.close(left).unwrap();
+    assert_eq!(task.peek(right, &mut bytes), Ok(0));
+    assert_eq!(task.take_error(right), Ok(None));
+    assert_eq!(task.getsockname(right), Ok(None));
+    assert_eq!(task.getpeername(right), Ok(None));
+    for (fd, errno) in [(Fd(0), Errno::ENOTSOCK), (left, Errno::EBADF)] {
+        assert_eq!(task.peek(fd, &mut bytes), Err(errno));
+        assert_eq!(task.take_error(fd), Err(errno));
+        assert_eq!(task.getsockname(fd), Err(errno));
+        assert_eq!(task.getpeername(fd), Err(errno));
+    }
+    assert_eq!(Errno::ECONNRESET.number(), 104);
+    assert_eq!(Errno::EALREADY.name(), "EALREADY");
 }
 
 #[test]

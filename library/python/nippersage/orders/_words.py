@@ -55,6 +55,7 @@ _TOLD: Dict[str, Callable[..., str]] = {
     "ctl": _ctl,
     "wait": lambda ep, most, timeout: f"wait({ep}, {most}, {time_text(timeout)})",
     "write": lambda fd, data: f"write({fd}, {bytes_text(data)})",
+    "shutdown": lambda fd, how: f"shutdown({fd})" if how == "wr" else f"shutdown({fd}, {how!r})",
     "settime": _settime,
     "tick": lambda count: f"tick({time_text(count)})",
 }
@@ -71,6 +72,8 @@ def answer_text(op: str, answer: Any) -> str:
     """What a call came to: `EAGAIN`, `sleeps`, `[(IN, 7)]`; nothing if there is nothing to tell."""
     if isinstance(answer, OSError):
         return NAMES.get(answer.errno or 0, str(answer))
+    if op in ("sockname", "peername"):
+        return "no name" if answer is None else f"({answer.space}, {answer.number})"
     if answer is None:
         return {"wait": "sleeps", "resume": "sleeps on"}.get(op, "")
     if op in ("wait", "resume"):
