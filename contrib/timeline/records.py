@@ -12,6 +12,8 @@ Record = namedtuple("Record", "line caller pid call tick answer picked text")
 ERRORS = {
     "EPERM": 1, "ENOENT": 2, "ESRCH": 3, "EBADF": 9, "EAGAIN": 11, "ENOMEM": 12, "EBUSY": 16, "EEXIST": 17,
     "EINVAL": 22, "ENFILE": 23, "EMFILE": 24, "ENOSPC": 28, "EPIPE": 32, "ELOOP": 40, "ENOTSOCK": 88,
+    "EAFNOSUPPORT": 97, "EADDRINUSE": 98, "EADDRNOTAVAIL": 99, "ECONNABORTED": 103, "ECONNRESET": 104,
+    "EISCONN": 106, "ENOTCONN": 107, "ECONNREFUSED": 111, "EALREADY": 114,
 }
 
 
@@ -49,12 +51,26 @@ def is_report(value):
     return list_of(U64, 2)(value) and U32(value[0])
 
 
+def one_of(*words):
+    return lambda value: type(value) is str and value in words
+
+
+def is_name(value):
+    """The space and the number of a socket's name, or none."""
+    return value is None or type(value) is list and len(value) == 2 and is_space(value[0]) and U32(value[1])
+
+
 def is_error(value):
-    return type(value) is list and len(value) == 2 and value[1] in ERRORS and value[0] == ERRORS[value[1]]
+    return (
+        type(value) is list and len(value) == 2 and type(value[1]) is str and value[1] in ERRORS
+        and type(value[0]) is int and value[0] == ERRORS[value[1]]
+    )
 
 
 U32, U64 = whole(0, 2**32 - 1), whole(0, 2**64 - 1)
 I32, I64 = whole(-(2**31), 2**31 - 1), whole(-(2**63), 2**63 - 1)
+
+is_space = one_of("v4", "v6", "local")
 
 #: The keys of each operation, and which values they may have.
 CALLS = {
@@ -67,21 +83,30 @@ CALLS = {
     "write": {"fd": I32, "hex": is_hex},
     "settime": {"fd": I32, "abs": is_flag, "value": U64, "interval": U64},
     "dup2": {"fd": I32, "to": I32},
-    **dict.fromkeys(["shutdown", "gettime", "dup", "close"], {"fd": I32}),
+    **dict.fromkeys(["shutdown", "sockerr", "sockname", "peername", "gettime", "dup", "close"], {"fd": I32}),
+    "peek": {"fd": I32, "n": U32},
+    "socket": {"family": one_of("tcp", "unix"), "cloexec": is_flag},
+    **dict.fromkeys(["bind", "connect"], {"fd": I32, "space": is_space, "name": U32}),
+    "listen": {"fd": I32, "backlog": I32},
+    "accept": {"fd": I32, "cloexec": is_flag},
     **dict.fromkeys(["fork", "exec", "exit"], {}),
 }
 
-#: Those of a write of one byte over and over.
+#: Those of a write of one byte over and over, and of a shutdown that says what is shut: "wr" is never said.
 RUN = {"fd": I32, "fill": is_fill}
+SHUT = {"fd": I32, "how": one_of("rd", "rdwr")}
+#: Operations that may have other keys, by one of these.
+OTHERWISE = {"write": ("fill", RUN), "shutdown": ("how", SHUT)}
 
 ANSWERS = {
-    **dict.fromkeys(["done", "parked", "still"], lambda value: value is True),
+    **dict.fromkeys(["done", "parked", "still", "connecting"], lambda value: value is True),
     "num": U64,
     "two": list_of(I32, 2),
     "bytes": is_hex,
     "events": list_of(is_report),
     "time": list_of(U64, 2),
-    "err": is_error,
+    **dict.fromkeys(["err", "failed"], is_error),
+    "name": is_name,
 }
 
 
@@ -92,7 +117,8 @@ def has_keys(value, keys):
 def is_call(call):
     if type(call) is not dict or type(call.get("op")) is not str or call["op"] not in CALLS:
         return False
-    keys = RUN if call["op"] == "write" and "fill" in call else CALLS[call["op"]]
+    key, keys = OTHERWISE.get(call["op"], (None, None))
+    keys = keys if key in call else CALLS[call["op"]]
     return has_keys(call, ["op", *keys]) and all(fits(call[key]) for key, fits in keys.items())
 
 

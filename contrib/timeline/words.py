@@ -64,8 +64,10 @@ def reports(found):
 def answer(record, unit):
     """What is behind the colon; nothing for an answer that says no more than that the call was made."""
     key, value = record.answer
-    if key == "err":
+    if key in ("err", "failed"):
         return value[1]
+    if key == "name":
+        return f"{value[0]} {value[1]}" if value else "no name"
     if key == "bytes":
         return some_bytes(value)
     if key == "events":
@@ -74,7 +76,7 @@ def answer(record, unit):
         return f"{value[0]}, {value[1]}"
     if key == "time":
         return f"{value[0] // unit.size}, {value[1] // unit.size}"
-    return {"num": str(value), "still": "still"}.get(key, "")
+    return {"num": str(value), "still": "still", "connecting": "connecting"}.get(key, "")
 
 
 def control(call):
@@ -91,8 +93,8 @@ def asked(call, unit):
     if call["op"] == "settime":
         value, interval = call["value"] // unit.size, call["interval"] // unit.size
         return f"settime {call['fd']} {'at' if call['abs'] else 'in'} {value}, {interval}"
-    numbers = [str(call[key]) for key in ("fd", "to") if key in call]
-    return " ".join([call["op"], *numbers])
+    others = [str(call[key]) for key in ("fd", "to", "how", "family", "space", "name", "backlog") if key in call]
+    return " ".join([call["op"], *others])
 
 
 def word(record, unit):
