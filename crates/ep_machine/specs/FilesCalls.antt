@@ -4,18 +4,20 @@ use Rattle.ep_base.specs.Limits.{Limits}
 use Rattle.ep_base.specs.declared.answer.Answer.{Answer}
 use Rattle.ep_base.specs.declared.answer.Answer.TheVariants.{Done, Num}
 use Rattle.ep_base.specs.declared.call.Call.{Call}
-use Rattle.ep_base.specs.declared.call.Call.TheVariants.{Accept, Bind, Close, Connect, Dup, Dup2, EpollCreate, EventFd, Exec, Exit, Fork, Listen}
+use Rattle.ep_base.specs.declared.call.Call.TheVariants.{Accept, Close, Dup, Dup2, EpollCreate, EventFd, Exec, Exit, Fork, Listen}
 use Rattle.ep_base.specs.declared.call.Call.TheVariants.{Pipe as PipeCall, Plain, Socket, SocketPair, TimerFd}
 use Rattle.ep_base.specs.declared.errno.Errno.{Errno}
 use Rattle.ep_base.specs.declared.errno.Errno.TheVariants.{Eagain, Ebadf, Ebusy, Einval, Emfile}
+use Rattle.ep_base.specs.declared.socket.Family.{Family}
 use Rattle.ep_machine.specs.Files.{Files, named_by, names_nothing, numbers_of}
 use Rattle.ep_machine.specs.Lists.{numbered}
-use Rattle.ep_machine.specs.Objects.{Object, counter, instance, pair, pipe, plain, timer}
+use Rattle.ep_machine.specs.Objects.{Object, counter, idle, instance, pair, pipe, plain, timer}
 use Rattle.ep_machine.specs.Pipe.{new_pipe}
 use Rattle.ep_machine.specs.Sockets.{new_pair}
 use Rattle.ep_machine.specs.Tables.{answer_one, answer_two, close, create_one, create_two, dup, dup2, exec}
 use Rattle.ep_machine.specs.Tables.{exit, fork, is_in_range, one_free, one_refusals, two_refusals}
 use Rattle.ep_machine.specs.Timer.{new_timer}
+use Rattle.ep_machine.specs.Unconnected.{new_idle}
 use Rattle.ep_machine.specs.Watches.{is_op, number_in}
 
 pub record FilesCall : Type 0 where
@@ -35,6 +37,9 @@ pipe_of limits s p cloexec = two_of limits s p (pipe (new_pipe limits.pipe_bytes
 
 abbrev pub socketpair_of : Limits → Files → ℕ → Bool → FilesCall
 socketpair_of limits s p cloexec = two_of limits s p (pair (new_pair limits.sock_bytes)) cloexec
+
+abbrev pub socket_of : Limits → Files → ℕ → Family → Bool → FilesCall
+socket_of limits s p family cloexec = one_of limits s p (idle (new_idle family)) cloexec
 
 abbrev pub eventfd_of : Limits → Files → ℕ → ℕ → Bool → Bool → FilesCall
 eventfd_of limits s p init semaphore cloexec = one_of limits s p (counter (record { count = init; is_semaphore = semaphore })) cloexec
@@ -85,7 +90,7 @@ exec_of s p busy = record { refusals = (busy, Ebusy) ∷ []; answer = Done; afte
 abbrev pub exit_of : Files → ℕ → Bool → FilesCall
 exit_of s p busy = record { refusals = (busy, Ebusy) ∷ []; answer = Done; after = exit s p }
 
--- Sockets that listen and connect are not there: their calls are refused.
+-- Nobody listens yet: those calls are refused.
 abbrev pub refused_of : Files → FilesCall
 refused_of s = record { refusals = (true, Einval) ∷ []; answer = Done; after = s }
 
@@ -103,9 +108,7 @@ files_call limits s p busy (Close fd) = close_of s p fd.0
 files_call limits s p busy Fork = fork_of limits s p
 files_call limits s p busy Exec = exec_of s p busy
 files_call limits s p busy Exit = exit_of s p busy
-files_call limits s p busy (Socket family cloexec) = refused_of s
-files_call limits s p busy (Bind fd name) = refused_of s
+files_call limits s p busy (Socket family cloexec) = socket_of limits s p family cloexec
 files_call limits s p busy (Listen fd backlog) = refused_of s
-files_call limits s p busy (Connect fd name) = refused_of s
 files_call limits s p busy (Accept fd cloexec) = refused_of s
 files_call limits s p busy call = record { refusals = []; answer = Done; after = s }

@@ -5,6 +5,7 @@ pub mod Effect
 pub mod Pipe
 pub mod Sockets
 pub mod Names
+pub mod Unconnected
 pub mod Counters
 pub mod Timer
 pub mod Objects

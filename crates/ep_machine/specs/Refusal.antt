@@ -11,7 +11,7 @@ use Rattle.ep_base.specs.declared.ids.Fd.{Fd}
 use Rattle.ep_machine.specs.Bits.{EXCLUSIVE, exclusive_bits, has_bit, has_only}
 use Rattle.ep_machine.specs.Files.{named_by, names_nothing, object_under, side_under, table_of}
 use Rattle.ep_machine.specs.FilesCalls.{files_call}
-use Rattle.ep_machine.specs.Objects.{ObjectCall, is_instance, is_plain, object_call, object_refusals}
+use Rattle.ep_machine.specs.Objects.{ObjectCall, asks, is_instance, is_plain, object_refusals}
 use Rattle.ep_machine.specs.State.{State}
 use Rattle.ep_machine.specs.Timer.{last_moment}
 use Rattle.ep_machine.specs.Waits.{has_parked, is_parked, is_positive}
@@ -54,7 +54,7 @@ refusals_on limits s p call None = (files_call limits s.files p (has_parked s p)
 abbrev pub call_refusals : Limits → State → ℕ → Call → List (Bool × Errno)
 call_refusals limits s p (EpollCtl epfd op fd mask tag) = ctl_refusals limits s p epfd.0 op fd.0 mask.0
 call_refusals limits s p (EpollWait epfd most timeout) = wait_refusals s p epfd.0 most
-call_refusals limits s p call = refusals_on limits s p call (object_call call)
+call_refusals limits s p call = refusals_on limits s p call (asks s.files.objects call)
 
 abbrev pub refusals : Limits → State → ℕ → Event → List (Bool × Errno)
 refusals limits s caller (CallOf p call) = (is_none (table_of s.files p.0), Esrch) ∷ (is_parked s caller, Ebusy) ∷ call_refusals limits s p.0 call

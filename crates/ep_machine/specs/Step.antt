@@ -11,7 +11,7 @@ use Rattle.ep_base.specs.declared.errno.Errno.{Errno}
 use Rattle.ep_base.specs.declared.ids.Fd.{Fd}
 use Rattle.ep_machine.specs.Files.{named_by, object_under, side_under}
 use Rattle.ep_machine.specs.FilesCalls.{FilesCall, files_call}
-use Rattle.ep_machine.specs.Objects.{ObjectCall, object_call, object_effect}
+use Rattle.ep_machine.specs.Objects.{ObjectCall, asks, object_effect}
 use Rattle.ep_machine.specs.Effect.{first}
 use Rattle.ep_machine.specs.Refusal.{refusals}
 use Rattle.ep_machine.specs.Report.{plainly}
@@ -41,7 +41,7 @@ change_on limits s p call None = files_change s (files_call limits s.files p (ha
 abbrev pub call_change : Limits → State → ℕ → ℕ → Call → List ℕ → Option Change
 call_change limits s caller p (EpollCtl epfd op fd mask tag) picked = plainly picked (ctl s p epfd.0 op fd.0 mask.0 tag)
 call_change limits s caller p (EpollWait epfd most timeout) picked = wait s caller p (named_by s.files p epfd.0) (number_in most) timeout picked
-call_change limits s caller p call picked = plainly picked (change_on limits s p call (object_call call))
+call_change limits s caller p call picked = plainly picked (change_on limits s p call (asks s.files.objects call))
 
 abbrev pub change : Limits → State → ℕ → Event → List ℕ → Option Change
 change limits s caller (CallOf p call) picked = call_change limits s caller p.0 call picked

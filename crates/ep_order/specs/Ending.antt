@@ -9,7 +9,7 @@ use Rattle.ep_law.specs.Laws.{Member}
 use Rattle.ep_machine.specs.Effect.{first}
 use Rattle.ep_machine.specs.Files.{named_by, object_of}
 use Rattle.ep_machine.specs.Lists.{is_among}
-use Rattle.ep_machine.specs.Objects.{ObjectCall, instance, object_call}
+use Rattle.ep_machine.specs.Objects.{ObjectCall, asks, instance}
 use Rattle.ep_machine.specs.Readiness.{is_reportable_by}
 use Rattle.ep_machine.specs.Refusal.{refusals}
 use Rattle.ep_machine.specs.Run.{run}
@@ -24,7 +24,7 @@ is_object_of s p None d = false
 is_object_of s p (Some on) d = named_by s.files p on.0.0 == d
 
 abbrev pub is_called : State → Event → ℕ → Bool
-is_called s (CallOf p call) d = is_object_of s p.0 (object_call call) d
+is_called s (CallOf p call) d = is_object_of s p.0 (asks s.files.objects call) d
 is_called s event d = false
 
 -- an event that picks these numbers doesn't touch registration x, if `later` says which instances are ready at its end

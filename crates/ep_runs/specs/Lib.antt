@@ -5,6 +5,7 @@ pub mod CounterRuns
 pub mod TimerRuns
 pub mod SocketRuns
 pub mod HalfClosedRuns
+pub mod UnconnectedRuns
 pub mod DescriptorRuns
 pub mod RegistrationRuns
 pub mod EdgeRuns

@@ -5,16 +5,19 @@ use Rattle.ep_base.specs.declared.answer.Answer.{Answer}
 use Rattle.ep_base.specs.declared.answer.Answer.TheVariants.{Done, Events, Refused, Two}
 use Rattle.ep_base.specs.declared.answer.Report.{Report}
 use Rattle.ep_base.specs.declared.call.Call.{Call}
-use Rattle.ep_base.specs.declared.call.Call.TheVariants.{Close, Dup, Dup2, EpollCreate, EpollCtl, EpollWait}
+use Rattle.ep_base.specs.declared.call.Call.TheVariants.{Accept, Bind, Close, Connect, Dup, Dup2, EpollCreate, EpollCtl, EpollWait}
 use Rattle.ep_base.specs.declared.call.Call.TheVariants.{EventFd, GetTime, Peek, Pipe as PipeCall, Plain, Read}
-use Rattle.ep_base.specs.declared.call.Call.TheVariants.{SetTime, Shutdown, SocketName, SocketPair, TakeError, TimerFd, Write}
+use Rattle.ep_base.specs.declared.call.Call.TheVariants.{SetTime, Shutdown, Socket, SocketName, SocketPair, TakeError, TimerFd, Write}
 use Rattle.ep_base.specs.declared.call.Event.{Event}
 use Rattle.ep_base.specs.declared.call.Event.TheVariants.{Call as CallOf, Resume, Tick}
 use Rattle.ep_base.specs.declared.errno.Errno.{Errno}
 use Rattle.ep_base.specs.declared.ids.Fd.{Fd}
 use Rattle.ep_base.specs.declared.record.Record.{Record}
+use Rattle.ep_base.specs.declared.socket.Family.{Family}
 use Rattle.ep_base.specs.declared.socket.How.{How}
 use Rattle.ep_base.specs.declared.socket.How.TheVariants as hows
+use Rattle.ep_base.specs.declared.socket.Name.{Name}
+use Rattle.ep_base.specs.declared.socket.Space.{Space}
 
 -- limits on descriptors, files and registrations; the others don't matter here
 abbrev pub small_limits : ℕ → ℕ → ℕ → Limits
@@ -53,6 +56,9 @@ timer_call clock = TimerFd (pos clock) false
 
 abbrev pub pair_call : Call
 pair_call = SocketPair false
+
+abbrev pub socket_call : Family → Call
+socket_call family = Socket family false
 
 abbrev pub plain_call : Call
 plain_call = Plain false
@@ -98,6 +104,18 @@ error_call fd = TakeError (fd_of fd)
 
 abbrev pub name_call : ℤ → Bool → Call
 name_call fd of_peer = SocketName (fd_of fd) of_peer
+
+abbrev pub name_at : Space → ℕ → Name
+name_at space number = record { space = space; number = number }
+
+abbrev pub bind_call : ℤ → Space → ℕ → Call
+bind_call fd space number = Bind (fd_of fd) (name_at space number)
+
+abbrev pub connect_call : ℤ → Space → ℕ → Call
+connect_call fd space number = Connect (fd_of fd) (name_at space number)
+
+abbrev pub accept_call : ℤ → Call
+accept_call fd = Accept (fd_of fd) false
 
 abbrev pub settime_call : ℤ → Bool → ℕ → ℕ → Call
 settime_call fd absolute value interval = SetTime (fd_of fd) absolute value interval

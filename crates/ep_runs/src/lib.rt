@@ -15,3 +15,4 @@ pub mod refusals;
 pub mod registrations;
 pub mod sockets;
 pub mod timers;
+pub mod unconnected;

@@ -8,7 +8,7 @@ use Rattle.ep_base.specs.Limits.{Limits}
 use Rattle.ep_base.specs.declared.answer.Answer.{Answer}
 use Rattle.ep_base.specs.declared.answer.Answer.TheVariants.{Events}
 use Rattle.ep_base.specs.declared.call.Call.{Call}
-use Rattle.ep_base.specs.declared.call.Call.TheVariants.{Close, Dup, Dup2, EpollCreate, EventFd, Exec, Exit, Fork, Pipe as PipeCall, Plain, SocketPair, TimerFd}
+use Rattle.ep_base.specs.declared.call.Call.TheVariants.{Close, Dup, Dup2, EpollCreate, EventFd, Exec, Exit, Fork, Pipe as PipeCall, Plain, Socket, SocketPair, TimerFd}
 use Rattle.ep_base.specs.declared.call.Event.{Event}
 use Rattle.ep_base.specs.declared.call.Event.TheVariants.{Call as CallOf, Resume, Tick}
 use Rattle.ep_base.specs.declared.errno.Errno.{Errno}
@@ -275,6 +275,7 @@ module _ (limits : Limits) (s : State) (caller p : ℕ) (ks : List ℕ) (h : AtR
   files_are_fine (EventFd init semaphore cloexec) tests = fine_on_files (EventFd init semaphore cloexec) (filed_one s.files p _ cloexec tests.0 f) (extends_one s.files p _ cloexec)
   files_are_fine (TimerFd clock cloexec) tests = fine_on_files (TimerFd clock cloexec) (filed_one s.files p _ cloexec tests.0 f) (extends_one s.files p _ cloexec)
   files_are_fine (SocketPair cloexec) tests = fine_on_files (SocketPair cloexec) (filed_two s.files p _ cloexec tests.0 f) (extends_two s.files p _ cloexec)
+  files_are_fine (Socket family cloexec) tests = fine_on_files (Socket family cloexec) (filed_one s.files p _ cloexec tests.0 f) (extends_one s.files p _ cloexec)
   files_are_fine (Plain cloexec) tests = fine_on_files (Plain cloexec) (filed_one s.files p _ cloexec tests.0 f) (extends_one s.files p _ cloexec)
   files_are_fine (EpollCreate cloexec) tests = fine_on_files (EpollCreate cloexec) (filed_one s.files p _ cloexec tests.0 f) (extends_one s.files p _ cloexec)
   files_are_fine (Dup fd) tests = fine_on_files (Dup fd) (filed_dup s.files p (named_by s.files p fd.0) f (named_lives s.files p fd.0 f tests.1.0)) (same_tables s.files _)
