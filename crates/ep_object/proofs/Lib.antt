@@ -1,8 +1,10 @@
 pub mod AnswerLemmas
 mod Arrivals
 pub mod BitLemmas
+mod IdleLemmas
 pub mod KindLemmas
 mod Laws
+pub mod NamingLemmas
 mod NeededLemmas
 pub mod OwnEndLemmas
 mod PairEndLemmas

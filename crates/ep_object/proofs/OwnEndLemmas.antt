@@ -10,10 +10,11 @@ use Rattle.ep_base.specs.declared.errno.Errno.{Errno}
 use Rattle.ep_base.specs.declared.object.End.{End}
 use Rattle.ep_base.specs.declared.object.End.TheVariants.{First, Second}
 use Rattle.ep_base.specs.declared.socket.How.{How}
+use Rattle.ep_base.specs.declared.socket.Name.{Name}
 use Rattle.ep_machine.specs.Bits.{ERR, HUP, IN, OUT}
 use Rattle.ep_machine.specs.Effect.{Effect, attempt, first, unless}
 use Rattle.ep_machine.specs.Lists.{is_empty}
-use Rattle.ep_machine.specs.Objects.{Object, ObjectCall, asks_name, asks_time, close_end, gettime, instance, name_of, object_effect, object_present, object_refusals, pair}
+use Rattle.ep_machine.specs.Objects.{Object, ObjectCall, asks_name, asks_time, bind, binds, close_end, connect, connects, gettime, idle, instance, name_of, object_effect, object_present, object_refusals, pair}
 use Rattle.ep_machine.specs.Objects.{peek, peeks, pipe, plain, read, read_refusals, reads, sets_time, settime, shutdown, shuts_down, take_error, takes_error, timer}
 use Rattle.ep_machine.specs.Objects.{write, write_refusals, writes}
 use Rattle.ep_machine.specs.Pipe.{Pipe, pipe_present, pipe_room, pipe_taken}
@@ -72,21 +73,32 @@ write_stays (pipe p) Second Second bytes now ne h k = absurd (ne refl)
 write_stays (pair p) e o bytes now ne h k = unless_stays (first (write_refusals (pair p) e bytes)) (pair p) (write (pair p) e bytes) o now (pair_writes p e o bytes ne)
 write_stays x e o bytes now ne h k = one_end e o ne h k
 
-peek_stays : (x : Object) (e o : End) (n now : ℕ) → e ≢ o → Shows x (peek x e n).1 o now now
-peek_stays (pair p) e o n now ne = pair_peeks p e o n ne
-peek_stays x e o n now ne = covers_self _ 0
+peek_stays : (x : Object) (e o : End) (n now : ℕ) → e ≢ o → object_has x e ≡ true → object_has x o ≡ true → Shows x (peek x e n).1 o now now
+peek_stays (pair p) e o n now ne h k = pair_peeks p e o n ne
+peek_stays (idle i) e o n now ne h k = one_end e o ne h k
+peek_stays x e o n now ne h k = covers_self _ 0
 
 shutdown_stays : (x : Object) (e o : End) (how : How) (now : ℕ) → e ≢ o → Shows x (shutdown x e how).1 o now now
 shutdown_stays (pair p) e o how now ne = pair_shuts p e o how ne
 shutdown_stays x e o how now ne = covers_self _ 0
 
-error_stays : (x : Object) (e o : End) (now : ℕ) → e ≢ o → Shows x (take_error x e).1 o now now
-error_stays (pair p) e o now ne = pair_fails p e o ne
-error_stays x e o now ne = covers_self _ 0
+error_stays : (x : Object) (e o : End) (now : ℕ) → e ≢ o → object_has x e ≡ true → object_has x o ≡ true → Shows x (take_error x e).1 o now now
+error_stays (pair p) e o now ne h k = pair_fails p e o ne
+error_stays (idle i) e o now ne h k = one_end e o ne h k
+error_stays x e o now ne h k = covers_self _ 0
 
 name_stays : (x : Object) (e o : End) (of_peer : Bool) (now : ℕ) → Shows x (name_of x e of_peer).1 o now now
 name_stays (pair p) e o of_peer now = covers_self _ 0
 name_stays x e o of_peer now = covers_self _ 0
+
+-- a name is not shown
+bind_stays : (x : Object) (found : Option Name) (o : End) (now : ℕ) → Shows x (bind x found).1 o now now
+bind_stays (idle i) found o now = covers_self _ 0
+bind_stays x found o now = covers_self _ 0
+
+connect_stays : (x : Object) (found : Option Name) (e o : End) (now : ℕ) → e ≢ o → object_has x e ≡ true → object_has x o ≡ true → Shows x (connect x found).1 o now now
+connect_stays (idle i) found e o now ne h k = one_end e o ne h k
+connect_stays x found e o now ne h k = covers_self _ 0
 
 settime_stays : (x : Object) (e o : End) (absolute : Bool) (value interval now : ℕ) → e ≢ o → object_has x e ≡ true → object_has x o ≡ true → Shows x (settime x absolute value interval now).1 o now now
 settime_stays (timer t) e o absolute value interval now ne h k = one_end e o ne h k
@@ -100,10 +112,13 @@ gettime_stays x o now = covers_self _ 0
 pub call_stays : (x : Object) (e o : End) (now : ℕ) (asked : ObjectCall) → e ≢ o → object_has x e ≡ true → object_has x o ≡ true → Shows x (attempt (object_refusals x e now asked) x (object_effect x e now asked)).1 o now now
 call_stays x e o now (reads n) ne h k = read_stays x e o n now ne h k
 call_stays x e o now (writes bytes) ne h k = write_stays x e o bytes now ne h k
-call_stays x e o now (peeks n) ne h k = unless_stays (first (object_refusals x e now (peeks n))) x (peek x e n) o now (peek_stays x e o n now ne)
+call_stays x e o now (peeks n) ne h k = unless_stays (first (object_refusals x e now (peeks n))) x (peek x e n) o now (peek_stays x e o n now ne h k)
 call_stays x e o now (shuts_down how) ne h k = unless_stays (first (object_refusals x e now (shuts_down how))) x (shutdown x e how) o now (shutdown_stays x e o how now ne)
-call_stays x e o now takes_error ne h k = unless_stays (first (object_refusals x e now takes_error)) x (take_error x e) o now (error_stays x e o now ne)
+call_stays x e o now takes_error ne h k = unless_stays (first (object_refusals x e now takes_error)) x (take_error x e) o now (error_stays x e o now ne h k)
 call_stays x e o now (asks_name of_peer) ne h k = unless_stays (first (object_refusals x e now (asks_name of_peer))) x (name_of x e of_peer) o now (name_stays x e o of_peer now)
+call_stays x e o now (binds space found) ne h k = unless_stays (first (object_refusals x e now (binds space found))) x (bind x found) o now (bind_stays x found o now)
+call_stays x e o now (connects space found) ne h k =
+    unless_stays (first (object_refusals x e now (connects space found))) x (connect x found) o now (connect_stays x found e o now ne h k)
 call_stays x e o now (sets_time absolute value interval) ne h k =
     unless_stays (first (object_refusals x e now (sets_time absolute value interval))) x (settime x absolute value interval now) o now (settime_stays x e o absolute value interval now ne h k)
 call_stays x e o now asks_time ne h k = unless_stays (first (object_refusals x e now asks_time)) x (gettime x now) o now (gettime_stays x o now)

@@ -4,3 +4,4 @@ pub mod Kinds
 pub mod Memory
 pub mod Next
 pub mod Law
+pub mod Naming

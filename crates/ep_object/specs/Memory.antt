@@ -1,7 +1,7 @@
 -- How many bytes a call could give, which decides whether it takes memory.
 use Rattle.std.specs.Prelude.{Bool, false, if◌then◌else◌, length, true, ℕ, ◌≤◌}
 use Rattle.ep_base.specs.declared.answer.Answer.{Answer}
-use Rattle.ep_base.specs.declared.answer.Answer.TheVariants.{Bytes, Done, Failed, Named, Num, Refused, Time}
+use Rattle.ep_base.specs.declared.answer.Answer.TheVariants.{Bytes, Connecting, Done, Failed, Named, Num, Refused, Time}
 use Rattle.ep_base.specs.declared.object.End.{End}
 use Rattle.ep_machine.specs.Objects.{Object, ObjectCall, pair, peeks, pipe, reads}
 use Rattle.ep_stream.specs.Waiting.{pair_waiting, pipe_waiting}
@@ -27,6 +27,7 @@ abbrev pub GivesAtMost : ℕ → Answer → Type 0
 GivesAtMost most (Bytes bytes) = length bytes ≤ most
 GivesAtMost most (Num k) = Unit {0}
 GivesAtMost most (Time value interval) = Unit {0}
+GivesAtMost most Connecting = Unit {0}
 GivesAtMost most (Failed e) = Unit {0}
 GivesAtMost most (Named name) = Unit {0}
 GivesAtMost most (Refused e) = Unit {0}

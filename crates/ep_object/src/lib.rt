@@ -4,6 +4,8 @@
 mod law;
 mod object;
 mod object_call;
+mod refusal;
+mod unconnected;
 
 pub use crate::law::{arrivals_are_raised, objects_keep_laws};
 pub use crate::object::Object;

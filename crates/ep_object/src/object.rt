@@ -1,27 +1,25 @@
 //! Objects of each kind.
-ghost use Rattle.std.specs.Prelude.{◌≡◌, ◌≤◌, ◌∷◌, [], ℕ, Bool, min, not, IfOk, IsOk, OnErr};
+ghost use Rattle.std.specs.Prelude.{◌≡◌, ◌≤◌, ◌∷◌, [], ℕ, Bool, min, not, IfOk, IfSome, Some, IsOk, OnErr};
 ghost use Rattle.ep_machine.specs.Bits.{raises};
 ghost use Rattle.ep_machine.specs.Effect.{attempt};
-ghost use Rattle.ep_machine.specs.Objects.{advance, close_end, counter, gettime, instance, is_instance, is_plain, is_timer, name_of, name_refusals, object_effect, object_present, object_refusals, of_socket, pair, peek, peeks, pipe, plain, read, read_refusals, reads, settime, shutdown, shutdown_refusals, take_error, timer, write, write_refusals};
+ghost use Rattle.ep_machine.specs.Objects.{advance, bind, bind_refusals, close_end, connect, connect_refusals, counter, gettime, idle, instance, is_instance, is_plain, is_timer, name_in, name_of, name_refusals, object_effect, object_present, object_refusals, of_socket, pair, peek, peeks, pipe, plain, read, read_refusals, reads, settime, shutdown, shutdown_refusals, take_error, timer, write, write_refusals};
 ghost use Rattle.ep_machine.specs.Pipe.{new_pipe};
 ghost use Rattle.ep_machine.specs.Sockets.{new_pair};
 ghost use Rattle.ep_machine.specs.Timer.{new_timer, timer_set_refusals};
-ghost use Rattle.ep_object.specs.Asked.{IsOfSocket};
+ghost use Rattle.ep_machine.specs.Unconnected.{new_idle};
+ghost use Rattle.ep_object.specs.Asked.{IsOfSocket, found_in};
 ghost use Rattle.ep_object.specs.Memory.{asked_of, object_waiting};
+ghost use Rattle.ep_object.specs.Naming.{Gains, called};
 ghost use Rattle.ep_object.specs.Next.{IsNextMoment};
 
 use crate::object_call::ObjectCall;
-use ep_base::{Answer, Buffer, Bytes, Call, Errno, How, Mask, Moment, Span};
+use crate::refusal::{NOTHING, refused};
+use crate::unconnected::{Idle, misfit_or};
+use ep_base::{Answer, Buffer, Bytes, Call, Errno, Family, How, Mask, Moment, Name, Space, Span};
 use ep_counters::{EventFd, Timer};
 use ep_stream::{End, Pipe, Raised, SockPair};
 use std::alloc::{AllocError, Global};
 use std::marker::Model;
-
-/// Nothing is raised.
-const NOTHING: Raised = Raised {
-    first: Mask(0),
-    second: Mask(0),
-};
 
 /// What an object is.
 #[derive(Drop)]
@@ -30,6 +28,8 @@ enum Kind {
     Plain(Global),
     Pipe(Pipe),
     Pair(SockPair),
+    /// A socket without a connection.
+    Idle(Idle),
     Counter(EventFd),
     Timer(Timer),
     /// An epoll instance, whose registrations are kept elsewhere.
@@ -83,6 +83,15 @@ impl Object {
         })
     }
 
+    /// socket(2): a socket of this family without a name and without a connection.
+    pub fn socket(alloc: Global, family: Family) -> Object
+        ensures { result ≡ idle (new_idle family) }
+    {
+        Object {
+            kind: Kind::Idle(Idle::new(alloc, family)),
+        }
+    }
+
     /// eventfd(2): a counter that starts at `init`. With `semaphore`, EFD_SEMAPHORE, a read takes 1 from it.
     pub fn counter(alloc: Global, init: u32, semaphore: bool) -> Object
         ensures { result ≡ counter (record { count = init; is_semaphore = semaphore }) }
@@ -124,6 +133,34 @@ impl Object {
         matches!(self.kind, Kind::Instance)
     }
 
+    /// The name that it has and keeps from others as long as it lives: of a socket without a connection, once it is
+    /// bound or was given one.
+    pub fn name(&self) -> Option<Name>
+        ensures { result ≡ name_in self.now }
+    {
+        match &self.kind {
+            Kind::Idle(idle) => idle.name(),
+            _ => None,
+        }
+    }
+
+    /// The name that it has after this call and had not before.
+    #[tactic(auto, using(crate::proofs::NamingLemmas::other_object, crate::proofs::NamingLemmas::other_call))]
+    pub fn gains(&self, call: &ObjectCall<'_>) -> Option<Name>
+        ensures gains { (end : End) (now : ℕ)
+            → Gains self.now (called self.now end now call.now) result }
+        ensures found { IfSome result (λ name. found_in call.now ≡ Some name) }
+    {
+        let Kind::Idle(idle) = &self.kind else {
+            return None;
+        };
+        match *call.call {
+            Call::Bind { name, .. } => idle.gains_bound(name.space, call.found),
+            Call::Connect { name, .. } => idle.gains_connected(name.space, call.found),
+            _ => None,
+        }
+    }
+
     /// The bits that hold at this end at the moment `now`, as poll(2) would report them. None hold of
     /// a plain file, nor of an instance, which is judged by its registrations.
     pub fn present(&self, end: End, now: Moment) -> Mask
@@ -133,6 +170,7 @@ impl Object {
             Kind::Plain(_) | Kind::Instance => Mask(0),
             Kind::Pipe(pipe) => pipe.present(end),
             Kind::Pair(pair) => pair.present(end),
+            Kind::Idle(idle) => idle.present(),
             Kind::Counter(counter) => counter.present(),
             Kind::Timer(timer) => timer.present(now),
         }
@@ -147,7 +185,8 @@ impl Object {
             Kind::Pipe(_) if call.is_peek() => 0,
             Kind::Pipe(pipe) => pipe.waiting(end),
             Kind::Pair(pair) => pair.waiting(end),
-            Kind::Plain(_) | Kind::Counter(_) | Kind::Timer(_) | Kind::Instance => 0,
+            Kind::Plain(_) | Kind::Idle(_) | Kind::Counter(_) | Kind::Timer(_) | Kind::Instance =>
+                0,
         }
     }
 
@@ -184,7 +223,8 @@ impl Object {
         match &mut self.kind {
             Kind::Pipe(pipe) => pipe.close_end(end),
             Kind::Pair(pair) => pair.close_end(end),
-            Kind::Plain(_) | Kind::Counter(_) | Kind::Timer(_) | Kind::Instance => NOTHING,
+            Kind::Plain(_) | Kind::Idle(_) | Kind::Counter(_) | Kind::Timer(_) | Kind::Instance =>
+                NOTHING,
         }
     }
 
@@ -193,8 +233,10 @@ impl Object {
     ///
     /// - read(2) and write(2): EINVAL of an instance, and for a write of a timer; else as the kind's
     ///   own type says. A plain file gives no bytes and takes all.
-    /// - recv(2) with MSG_PEEK, shutdown(2), SO_ERROR and names: ENOTSOCK of anything but a socket pair, else as its
-    ///   own type says. A name is `None`.
+    /// - recv(2) with MSG_PEEK, shutdown(2), SO_ERROR, names, bind(2) and connect(2): ENOTSOCK of anything but a
+    ///   socket. A socket pair answers as its own type says; a name is `None`, a bind EINVAL, and a connect
+    ///   ECONNREFUSED, or EINVAL by a name that is none of a Unix socket. A socket without a connection has ENOTCONN
+    ///   for a shutdown and a peer's name.
     /// - timerfd_settime(2) and timerfd_gettime(2) answer the setting that the timer had: EINVAL of
     ///   anything but a timer, and for a `value` or `interval` above `LAST_MOMENT`.
     ///
@@ -217,7 +259,9 @@ impl Object {
             Call::Peek { .. }
             | Call::Shutdown { .. }
             | Call::TakeError { .. }
-            | Call::SocketName { .. } => self.apply_to_socket(end, call),
+            | Call::SocketName { .. }
+            | Call::Bind { .. }
+            | Call::Connect { .. } => self.apply_to_socket(end, call),
             Call::SetTime {
                 absolute,
                 value,
@@ -240,6 +284,7 @@ impl Object {
             Kind::Plain(alloc) => Ok((Answer::Bytes(Bytes::empty(*alloc)), NOTHING)),
             Kind::Pipe(pipe) => pipe.read(end, n),
             Kind::Pair(pair) => pair.read(end, n),
+            Kind::Idle(idle) => Ok((idle.read(n), NOTHING)),
             Kind::Counter(counter) => Ok(counter.read(n)),
             Kind::Timer(timer) => Ok(timer.read(now, n)),
             Kind::Instance => Ok(refused(Errno::Einval)),
@@ -255,6 +300,7 @@ impl Object {
             Kind::Plain(_) => (Answer::Num(bytes.len() as u64), NOTHING),
             Kind::Pipe(pipe) => pipe.write(end, bytes),
             Kind::Pair(pair) => pair.write(end, bytes),
+            Kind::Idle(idle) => (idle.write(bytes), NOTHING),
             Kind::Counter(counter) => counter.write(bytes),
             Kind::Timer(_) | Kind::Instance => refused(Errno::Einval),
         }
@@ -277,7 +323,9 @@ impl Object {
             Call::Peek { n, .. } => self.peek(end, n),
             Call::Shutdown { how, .. } => Ok(self.shutdown(end, how)),
             Call::TakeError { .. } => Ok(self.take_error(end)),
-            Call::SocketName { .. } => Ok(self.name()),
+            Call::SocketName { peer, .. } => Ok(self.named(peer)),
+            Call::Bind { name, .. } => Ok(self.bind(name.space, call.found)),
+            Call::Connect { name, .. } => Ok(self.connect(name.space, call.found)),
             _ => unreachable!(),
         }
     }
@@ -291,6 +339,7 @@ impl Object {
     {
         match &mut self.kind {
             Kind::Pair(pair) => pair.peek(end, n),
+            Kind::Idle(idle) => Ok((idle.read(n), NOTHING)),
             _ => Ok(refused(Errno::Enotsock)),
         }
     }
@@ -302,6 +351,7 @@ impl Object {
     {
         match &mut self.kind {
             Kind::Pair(pair) => pair.shutdown(end, how),
+            Kind::Idle(_) => refused(Errno::Enotconn),
             _ => refused(Errno::Enotsock),
         }
     }
@@ -313,17 +363,44 @@ impl Object {
     {
         match &mut self.kind {
             Kind::Pair(pair) => (pair.take_error(end), NOTHING),
+            Kind::Idle(idle) => (idle.take_error(), NOTHING),
             _ => refused(Errno::Enotsock),
         }
     }
 
-    /// getsockname(2) and getpeername(2) at either end.
-    fn name(&self) -> (Answer, Raised)
-        ensures { (end : End) (of_peer : Bool) → (result.0, self.now, result.1) ≡
+    /// getsockname(2), or getpeername(2) with `of_peer`, at either end.
+    fn named(&self, of_peer: bool) -> (Answer, Raised)
+        ensures { (end : End) → (result.0, self.now, result.1) ≡
             attempt (of_socket self.now (name_refusals self.now end of_peer)) self.now (name_of self.now end of_peer) }
     {
         match &self.kind {
             Kind::Pair(pair) => (Answer::Named(pair.name()), NOTHING),
+            Kind::Idle(_) if of_peer => refused(Errno::Enotconn),
+            Kind::Idle(idle) => (Answer::Named(idle.name()), NOTHING),
+            _ => refused(Errno::Enotsock),
+        }
+    }
+
+    /// bind(2) by a name of this space, where this one was found free.
+    fn bind(&mut self, space: Space, found: Option<Name>) -> (Answer, Raised)
+        ensures { (result.0, self.new, result.1) ≡
+            attempt (of_socket self.old (bind_refusals self.old space found)) self.old (bind self.old found) }
+    {
+        match &mut self.kind {
+            Kind::Pair(pair) => refused(misfit_or(pair.family(), space, Errno::Einval)),
+            Kind::Idle(idle) => (idle.bind(space, found), NOTHING),
+            _ => refused(Errno::Enotsock),
+        }
+    }
+
+    /// connect(2) by a name of this space, where this one was found free.
+    fn connect(&mut self, space: Space, found: Option<Name>) -> (Answer, Raised)
+        ensures { (result.0, self.new, result.1) ≡
+            attempt (of_socket self.old (connect_refusals self.old space found)) self.old (connect self.old found) }
+    {
+        match &mut self.kind {
+            Kind::Pair(_) => refused(misfit_or(Family::Unix, space, Errno::Econnrefused)),
+            Kind::Idle(idle) => idle.connect(space, found),
             _ => refused(Errno::Enotsock),
         }
     }
@@ -355,12 +432,4 @@ impl Object {
             _ => refused(Errno::Einval),
         }
     }
-}
-
-/// A refusal, which raises nothing.
-fn refused(errno: Errno) -> (Answer, Raised)
-    ensures answer { result.0 ≡ Answer.Refused errno }
-    ensures raised { result.1 ≡ raises 0 0 }
-{
-    (Answer::Refused(errno), NOTHING)
 }

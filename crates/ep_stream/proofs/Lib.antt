@@ -6,5 +6,5 @@ mod PairMarks
 mod Peers
 mod Prefixes
 mod Runs
-mod Truths
+pub mod Truths
 mod Unions

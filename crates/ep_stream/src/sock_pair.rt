@@ -12,7 +12,7 @@ use crate::bits::{NONE, beginning, intersection, told_or_begun, union, when};
 use crate::ends::{opposite, raised_ends, raises, shuts_read, shuts_write};
 use crate::queue::{peek_front, put_back, take_front};
 use circular_buffer::HeapCircularBuffer;
-use ep_base::{Answer, Buffer, End, Errno, How, Mask, Name, Raised};
+use ep_base::{Answer, Buffer, End, Errno, Family, How, Mask, Name, Raised};
 use std::alloc::{AllocError, Global};
 use std::marker::Model;
 
@@ -297,6 +297,14 @@ impl SockPair {
     {
         let _ends = &self.first_end; // the prover learns of it what a pair is
         None
+    }
+
+    /// What its ends speak.
+    pub fn family(&self) -> Family
+        ensures { result ≡ self.now.family }
+    {
+        let _ends = &self.first_end; // so the prover takes the pair apart
+        Family::Unix
     }
 
     /// How many bytes a read or a peek at this end could give.
