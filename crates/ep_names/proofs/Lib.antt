@@ -1,0 +1,3 @@
+pub mod LowestLemmas
+pub mod NameLemmas
+pub mod SpaceLemmas
