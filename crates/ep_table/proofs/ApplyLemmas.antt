@@ -26,7 +26,7 @@ key_same : (s : Shared) (y : Object) (e : End) → end_key (record s { object = 
 key_same s y First = refl
 key_same s y Second = refl
 
-set_get : {A : Type 0} (xs : List (Option A)) (i : ℕ) (x : A) → get_or xs i None ≡ Some x → slice_set xs i (Some x) ≡ xs
+pub set_get : {A : Type 0} (xs : List (Option A)) (i : ℕ) (x : A) → get_or xs i None ≡ Some x → slice_set xs i (Some x) ≡ xs
 set_get [] i x h = refl
 set_get (y ∷ xs) zero x h = ap (λ r. r ∷ xs) (sym h)
 set_get (y ∷ xs) (suc i) x h = ap (λ r. y ∷ r) (set_get xs i x h)

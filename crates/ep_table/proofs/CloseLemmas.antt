@@ -81,7 +81,7 @@ closed_number : (s : Shared) (e : End) → (closed_in s e).number ≡ s.number
 closed_number s First = refl
 closed_number s Second = refl
 
-closed_object : (s : Shared) (e : End) → (closed_in s e).object ≡ (close_end s.object e).0
+pub closed_object : (s : Shared) (e : End) → (closed_in s e).object ≡ (close_end s.object e).0
 closed_object s First = refl
 closed_object s Second = refl
 
@@ -218,13 +218,14 @@ module _ (ds : List (Option Description)) (os : List (Option Shared)) (n m : ℕ
       let r : None ≡ Some (record { 0 = g.0.key }) = sym e ∙ (shares g.0.key x was (left_apart g.0.key x g.0.is) at).1 in absurd cc) in
       ap same_object (sym g.1) ∙ test_apart x.object_number d.object_number apart)
 
+  pub objects_shut : objects os1 m ≡ slice_set (objects os m) s.number (if is_some (other_key s d.end) then Some (close_end s.object d.end).0 else None)
+  objects_shut = contents_next object_number_in object_in os d.object s b.is m no o keeps ∙ ap (λ (x : Option Object). slice_set (objects os m) s.number x) (kept_value (other_key s d.end) s d.end)
+
   pub objects_closed : objects os1 m ≡ slice_set (objects os m) d.object_number (if list_any (λ y. y.1.object == d.object_number) (numbered 0 (slice_set (places ds n) d.number None)) then Some (close_end s.object d.end).0 else None)
   objects_closed =
-      let e = contents_next object_number_in object_in os d.object s b.is m no o keeps in
-      let v = kept_value (other_key s d.end) s d.end in
       let a : is_some (other_key s d.end) ≡ list_any (λ y. y.1.object == d.object_number) (numbered 0 (slice_set (places ds n) d.number None)) =
       sym (any_other (other_key s d.end) refl) ∙ ap (λ (xs : List (Option Place)). list_any (λ y. y.1.object == d.object_number) (numbered 0 xs)) places_left in
-      e ∙ ((λ i. slice_set (objects os m) (b.number i) (v i)) ∙ ap (λ (c : Bool). slice_set (objects os m) d.object_number (if c then Some (close_end s.object d.end).0 else None)) a)
+      objects_shut ∙ (ap (λ (k : ℕ). slice_set (objects os m) k (if is_some (other_key s d.end) then Some (close_end s.object d.end).0 else None)) b.number ∙ ap (λ (c : Bool). slice_set (objects os m) d.object_number (if c then Some (close_end s.object d.end).0 else None)) a)
 
 closed_other_key : (s : Shared) (e : End) → other_key (closed_in s e) e ≡ other_key s e
 closed_other_key s First = refl

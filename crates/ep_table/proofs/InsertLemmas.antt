@@ -217,7 +217,7 @@ module _ (ds ds1 ds2 : List (Option Description)) (os os1 : List (Option Shared)
   pub places_two : places ds2 (n + 1 + 1) ≡ (places ds n ++ Some (place_in d1) ∷ []) ++ Some (place_in d2) ∷ []
   places_two = places_second ∙ ap (λ (xs : List (Option Place)). xs ++ Some (place_in d2) ∷ []) places_first
 
-  objects_two : objects os1 (m + 1) ≡ objects os m ++ Some x ∷ []
+  pub objects_two : objects os1 (m + 1) ≡ objects os m ++ Some x ∷ []
   objects_two = contents_more object_number_in object_in os os1 at t b.was b.here b.others h.objects
 
   pub names_two : counts names_in ds2 (n + 1 + 1) ≡ (counts names_in ds n ++ 1 ∷ []) ++ 1 ∷ []

@@ -16,7 +16,8 @@ pub mod QueueLemmas
 pub mod CountsLemmas
 pub mod SoundLemmas
 pub mod StoreCountsLemmas
-pub mod TimesLemmas
+pub mod TakingLemmas
+mod TimesLemmas
 pub mod NamesLemmas
 pub mod PutLemmas
 pub mod TableLemmas

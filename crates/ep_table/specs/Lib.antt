@@ -1,6 +1,7 @@
 pub mod Low
 pub mod ByNumber
 pub mod Value
+pub mod Taking
 pub mod Stored
 pub mod Processes
 pub mod View

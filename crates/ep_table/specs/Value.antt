@@ -133,6 +133,10 @@ effect_at s d now call =
     let x = content_of s d in let e = side_of s d in
     attempt (object_refusals x e now call) x (object_effect x e now call)
 
+-- what refuses it
+abbrev pub refusals_at : Files → ℕ → ℕ → ObjectCall → List (Bool × Errno)
+refusals_at s d now call = object_refusals (content_of s d) (side_of s d) now call
+
 -- how many of the bytes that wait there a call could give
 abbrev pub waiting_at : Files → ℕ → ObjectCall → ℕ
 waiting_at s d call = object_waiting (content_of s d) (side_of s d) call

@@ -1,28 +1,35 @@
 //! Open file descriptions and their objects.
-ghost use Rattle.std.specs.Prelude.{◌≡◌, ◌+◌, ◌<◌, ◌≤◌, ◌^◌, [], false, IfNone, IfOk, IfSome, IsOk, IsSome, None, OnErr, OnOk, Some, length, map, min, slice_index_or, slice_set, vec_capacity};
+ghost use Rattle.std.specs.Prelude.{◌≡◌, ◌+◌, ◌<◌, ◌≤◌, ◌^◌, [], false, IfNone, IfOk, IfSome, IsOk, IsSome, None, OnErr, OnOk, Some, length, map, min, slice_index_or, slice_set, vec_capacity, not, ◌&&◌, ◌||◌};
 ghost use Rattle.slab.specs.Slab.{HasRoomFor, slab_len};
 ghost use Rattle.std.specs.Map.Iter.{ShowsInOrder};
 ghost use Rattle.ep_base.specs.declared.ids.DescId.{DescId};
+ghost use Rattle.ep_machine.specs.Effect.{first};
 ghost use Rattle.ep_machine.specs.Lists.{is_among, numbered};
 ghost use Rattle.ep_machine.specs.Files.{object_of, place_of, side_of};
 ghost use Rattle.ep_object.specs.Memory.{asked_of};
-ghost use Rattle.ep_machine.specs.Objects.{close_end};
+ghost use Rattle.ep_base.specs.declared.socket.Name.{Name as the_name};
+ghost use Rattle.ep_machine.specs.Names.{is_there};
+ghost use Rattle.ep_machine.specs.Objects.{close_end, found_for, is_taken, name_in};
+ghost use Rattle.ep_names.specs.Names.{holds};
+ghost use Rattle.ep_object.specs.Asked.{takes_name};
+ghost use Rattle.ep_table.specs.Taking.{FindsFree, freed_slot};
 ghost use Rattle.ep_table.specs.Closing.{Dies, IsAt, across, closed_in, closed_slot, other_key, other_slot, raised_slot};
 ghost use Rattle.ep_table.specs.Live.{live_ids};
-ghost use Rattle.ep_table.specs.Value.{InsertsOne, InsertsTwo, SoundThings, count_at, files_in, less_at, more_at, number_at, objects_after, thing_effect, thing_number, thing_waiting};
+ghost use Rattle.ep_table.specs.Value.{InsertsOne, InsertsTwo, SoundThings, count_at, files_in, less_at, more_at, number_at, objects_after, refusals_at, thing_effect, thing_number, thing_waiting};
 
 use crate::dying_keys::DyingKeys;
 use crate::live::Live;
 use crate::words::{Dead, Description, Dying, Shared};
-use ep_base::{Answer, DescId, End, Moment, Raised};
+use ep_base::{Answer, Call, DescId, End, Moment, Name, Raised};
+use ep_names::Names;
 use ep_object::{Object, ObjectCall};
 use slab::Slab;
 use std::alloc::{AllocError, Allocator};
 use std::marker::Model;
 
 /// Open file descriptions and objects by their keys, how many there have been of each, how often a
-/// name was added to a description, and the descriptions that nothing names or holds, with room for
-/// all that live.
+/// name was added to a description, the descriptions that nothing names or holds, with room for
+/// all that live, and which names of sockets are taken.
 #[derive(Drop)]
 pub struct Store<A: Allocator> {
     described: u64,
@@ -31,6 +38,7 @@ pub struct Store<A: Allocator> {
     descriptions: Slab<Description, A>,
     objects: Slab<Shared, A>,
     dying: Vec<Dying, A>,
+    taken: Names<A>,
 }
 
 impl<A: Allocator> Model for Store<A> {
@@ -67,27 +75,29 @@ fn reserve<A: Allocator>(
     Ok(())
 }
 
-/// Closes an end of an object, which goes where that was the last: what that raised, and the key of
-/// the description of the other end.
+/// Closes an end of an object, which goes where that was the last: what that raised, the key of the description of
+/// the other end, and the name that went with the object.
 fn close<A: Allocator>(
     objects: &mut Slab<Shared, A>,
     at: usize,
     end: End,
-) -> (Raised, Option<DescId>)
+) -> (Raised, Option<DescId>, Option<Name>)
     requires { IsSome (slice_index_or objects.old.slots at None) }
     ensures slots { objects.new.slots
         ≡ slice_set objects.old.slots at
         (closed_slot (slice_index_or objects.old.slots at None) end) }
     ensures raised { result.0 ≡ raised_slot (slice_index_or objects.old.slots at None) end }
     ensures other { result.1 ≡ other_slot (slice_index_or objects.old.slots at None) end }
+    ensures name { result.2 ≡ freed_slot (slice_index_or objects.old.slots at None) end }
 {
     let shared = &mut objects[at];
     let raised = close_shared(shared, end);
     let other = other_in(shared, end);
-    if other.is_none() {
-        objects.remove(at);
+    if other.is_some() {
+        return (raised, other, None);
     }
-    (raised, other)
+    let name = objects.remove(at).object.name();
+    (raised, other, name)
 }
 
 fn close_shared(shared: &mut Shared, end: End) -> Raised
@@ -110,6 +120,28 @@ fn other_in(shared: &Shared, end: End) -> Option<DescId>
     }
 }
 
+/// Takes the name that a socket gets, if it gets one. An `AllocError` leaves the names.
+fn take_gained<A: Allocator>(taken: &mut Names<A>, gained: Option<Name>) -> Result<(), AllocError>
+    ensures ok { OnOk result
+        ((n : the_name) → holds taken.new n ≡ (is_there n gained || holds taken.old n)) }
+    ensures none { gained ≡ None → IsOk result }
+    ensures err { OnErr result (taken.new ≡ taken.old) }
+{
+    match gained {
+        Some(name) => taken.insert(name),
+        None => Ok(()),
+    }
+}
+
+/// Frees the name that went with an object, if one did.
+fn free_name<A: Allocator>(taken: &mut Names<A>, name: Option<Name>)
+    ensures { (n : the_name) → holds taken.new n ≡ (not (is_there n name) && holds taken.old n) }
+{
+    if let Some(name) = name {
+        taken.remove(name);
+    }
+}
+
 impl<A: Allocator> Store<A> {
     /// No descriptions.
     pub fn new(alloc: A) -> Store<A>
@@ -125,6 +157,7 @@ impl<A: Allocator> Store<A> {
             descriptions: Slab::new(alloc),
             objects: Slab::new(alloc),
             dying: Vec::new(alloc),
+            taken: Names::new(alloc),
         }
     }
 
@@ -191,9 +224,22 @@ impl<A: Allocator> Store<A> {
         Ok(())
     }
 
+    /// The name that is free for a call that gives its socket one: for a bind the one that it asks for, or any if that
+    /// is number 0; for a connect any of its space.
+    pub fn found_for(&self, call: &Call) -> Option<Name>
+        ensures { result ≡ found_for (is_taken self.now.objects) call.now }
+    {
+        match *call {
+            Call::Bind { name, .. } => self.taken.free(name),
+            Call::Connect { name, .. } => self.taken.given(name.space),
+            _ => None,
+        }
+    }
+
     /// A new object with one description that has one name, or nothing changed where there is no
-    /// memory or no number left.
+    /// memory or no number left. No object has a name from the start.
     pub fn insert(&mut self, object: Object) -> Result<DescId, AllocError>
+        requires { name_in object ≡ None }
         ensures ok { IfOk result (λ key. InsertsOne self.old self.new key object) }
         ensures err { OnErr result (self.new ≡ self.old) }
     {
@@ -227,6 +273,7 @@ impl<A: Allocator> Store<A> {
     /// A new object with a description of each end that have one name each, or nothing changed where
     /// there is no memory or no number left.
     pub fn insert_two(&mut self, object: Object) -> Result<(DescId, DescId), AllocError>
+        requires { name_in object ≡ None }
         ensures ok { IfOk result (λ keys. InsertsTwo self.old self.new keys.0 keys.1 object) }
         ensures err { OnErr result (self.new ≡ self.old) }
     {
@@ -274,15 +321,21 @@ impl<A: Allocator> Store<A> {
         call: &ObjectCall<'_>,
     ) -> Result<(Answer, Raised), AllocError>
         requires live { IsSome (number_at self.old.keys key) }
+        requires free { FindsFree self.old.objects call.now }
         ensures answer { IfOk result (λ r. r.0 ≡ (thing_effect self.old key now call.now).0) }
         ensures raised { IfOk result (λ r. r.1 ≡ (thing_effect self.old key now call.now).2) }
         ensures objects { OnOk result
             (self.new ≡ record self.old { objects = objects_after self.old key now call.now }) }
         ensures err { OnErr result (self.new ≡ self.old) }
-        ensures inline { min (asked_of call.now) (thing_waiting self.old key call.now) ≤ 16 → IsOk result }
+        ensures inline { takes_name call.now ≡ false
+            → min (asked_of call.now) (thing_waiting self.old key call.now) ≤ 16 → IsOk result }
+        ensures last { OnErr result
+            (first (refusals_at (files_in self.old) (thing_number self.old key) now call.now)
+            ≡ None) }
     {
         let description = self.descriptions[key.0];
         let shared = &mut self.objects[description.object];
+        take_gained(&mut self.taken, shared.object.gains(call))?;
         shared.object.apply(description.end, now, call)
     }
 
@@ -385,7 +438,8 @@ impl<A: Allocator> Store<A> {
     {
         let last = self.dying.pop()?;
         let description = self.descriptions.remove(last.key.0);
-        let (raised, other) = close(&mut self.objects, description.object, description.end);
+        let (raised, other, name) = close(&mut self.objects, description.object, description.end);
+        free_name(&mut self.taken, name);
         Some(Dead {
             desc: last.key,
             end: description.end,

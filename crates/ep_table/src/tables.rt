@@ -7,13 +7,15 @@ ghost use Rattle.ep_machine.specs.Effect.{first};
 ghost use Rattle.ep_machine.specs.Lists.{is_among, numbered};
 ghost use Rattle.ep_machine.specs.Files.{named_by, numbers_of, object_of, opening_files, place_of, side_of, table_of, under};
 ghost use Rattle.ep_machine.specs.Bits.{raises};
-ghost use Rattle.ep_machine.specs.Objects.{advance, object_present};
+ghost use Rattle.ep_machine.specs.Objects.{advance, found_for, is_taken, name_in, object_present};
 ghost use Rattle.ep_machine.specs.FilesCalls.{close_of, dup2_of, dup_of, fork_of, one_of, pipe_of, socketpair_of, two_of};
 ghost use Rattle.ep_machine.specs.Tables.{close, create_refusals, dup, exec, exit, fork, is_in_range, one_refusals, second_free, two_refusals};
 ghost use Rattle.ep_table.specs.Closing.{IsAt, Takes, across};
 ghost use Rattle.ep_table.specs.Live.{live_ids};
-ghost use Rattle.ep_table.specs.Value.{CreatesOne, CreatesTwo, Does, Gains, Sound, content_of, effect_under, files_after, holds_of, less_at, more_at, named_at, natural, number_found, number_of, number_under, waiting_at};
+ghost use Rattle.ep_table.specs.Value.{CreatesOne, CreatesTwo, Does, Gains, Sound, content_of, effect_under, files_after, holds_of, less_at, more_at, named_at, natural, number_found, number_of, number_under, refusals_at, waiting_at};
+ghost use Rattle.ep_object.specs.Asked.{takes_name};
 ghost use Rattle.ep_object.specs.Memory.{asked_of};
+ghost use Rattle.ep_table.specs.Taking.{FindsFree};
 ghost use Rattle.ep_object.specs.Next.{IsNextMoment};
 
 use crate::dying_keys::DyingKeys;
@@ -26,7 +28,7 @@ use crate::processes::{
 use crate::store::Store;
 use crate::table::Table;
 use crate::words::{Dead, Descriptor};
-use ep_base::{Answer, DescId, End, Errno, Fd, Limits, Mask, Moment, Pid, Raised};
+use ep_base::{Answer, Call, DescId, End, Errno, Fd, Limits, Mask, Moment, Name, Pid, Raised};
 use ep_object::{Object, ObjectCall};
 use std::alloc::{AllocError, Allocator, Global};
 use std::marker::Model;
@@ -174,7 +176,8 @@ impl<A: Allocator> Tables<A> {
 
     /// An object with one description, at the lowest free number of a process that is there.
     fn add_one(&mut self, pid: Pid, cloexec: bool, object: Object) -> Result<(), AllocError>
-        requires { IsSome (table_of self.old.files pid.0) }
+        requires process { IsSome (table_of self.old.files pid.0) }
+        requires unnamed { name_in object ≡ None }
         ensures ok { OnOk result (CreatesOne self.old self.new pid.0 object cloexec) }
         ensures err { OnErr result (self.new ≡ self.old) }
     {
@@ -194,7 +197,8 @@ impl<A: Allocator> Tables<A> {
 
     /// An object with two descriptions, at the lowest two free numbers of a process that is there.
     fn add_two(&mut self, pid: Pid, cloexec: bool, object: Object) -> Result<(), AllocError>
-        requires { IsSome (table_of self.old.files pid.0) }
+        requires process { IsSome (table_of self.old.files pid.0) }
+        requires unnamed { name_in object ≡ None }
         ensures ok { OnOk result (CreatesTwo self.old self.new pid.0 object cloexec) }
         ensures err { OnErr result (self.new ≡ self.old) }
     {
@@ -219,7 +223,8 @@ impl<A: Allocator> Tables<A> {
     /// reached. An `AllocError`, which comes for want of memory or where 2^64 - 1 descriptions or
     /// objects were made, leaves the tables. It comes only if nothing refuses the call.
     pub fn create(&mut self, pid: Pid, cloexec: bool, object: Object) -> Result<Answer, AllocError>
-        requires { IsSome (table_of self.old.files pid.0) }
+        requires process { IsSome (table_of self.old.files pid.0) }
+        requires unnamed { name_in object ≡ None }
         ensures ok { IfOk result
             (λ answer. Does (one_of self.old.limits self.old.files pid.0 object cloexec) answer
             self.old self.new) }
@@ -238,6 +243,7 @@ impl<A: Allocator> Tables<A> {
     /// An object with two descriptions at the two lowest free numbers, where that isn't refused.
     fn create_two(&mut self, pid: Pid, cloexec: bool, object: Object) -> Result<Answer, AllocError>
         requires process { IsSome (table_of self.old.files pid.0) }
+        requires unnamed { name_in object ≡ None }
         requires free { first (two_refusals self.old.limits self.old.files pid.0) ≡ None }
         requires small { second_free (numbers_of self.old.files pid.0) < 65536 }
         ensures ok { IfOk result
@@ -622,10 +628,18 @@ impl<A: Allocator> Tables<A> {
         self.object(desc).next(now)
     }
 
+    /// The name that is free for a call that gives its socket one: for a bind the one that it asks for, or any if that
+    /// is number 0; for a connect any of its space. `None` where there is none, and for any other call.
+    pub fn found_for(&self, call: &Call) -> Option<Name>
+        ensures { result ≡ found_for (is_taken self.now.files.objects) call.now }
+    {
+        self.store.found_for(call)
+    }
+
     /// A call on the object of a live description, at its end: what it is answered at the moment
-    /// `now`, and what it raises at the ends of the object. An `AllocError` leaves
-    /// the tables, and comes only if a read or a peek asks for more than 16 bytes and more than 16 wait.
-    /// The time grows with the bytes that are moved.
+    /// `now`, and what it raises at the ends of the object. An `AllocError` leaves the tables. It comes only if nothing
+    /// refuses the call: if a read or a peek asks for more than 16 bytes and more than 16 wait, or if a socket gets a
+    /// name. The time grows with the bytes that are moved.
     pub fn apply(
         &mut self,
         desc: DescId,
@@ -633,13 +647,16 @@ impl<A: Allocator> Tables<A> {
         call: &ObjectCall<'_>,
     ) -> Result<(Answer, Raised), AllocError>
         requires live { IsSome (number_under self.old desc) }
+        requires free { FindsFree self.old.files.objects call.now }
         ensures answer { IfOk result (λ r. r.0 ≡ (effect_under self.old desc now call.now).0) }
         ensures raised { IfOk result (λ r. r.1 ≡ (effect_under self.old desc now call.now).2) }
         ensures files { OnOk result
             (self.new ≡ record self.old { files = files_after self.old desc now call.now }) }
         ensures err { OnErr result (self.new ≡ self.old) }
-        ensures inline { min (asked_of call.now)
+        ensures inline { takes_name call.now ≡ false → min (asked_of call.now)
             (waiting_at self.old.files (number_of self.old desc) call.now) ≤ 16 → IsOk result }
+        ensures last { OnErr result (first (refusals_at self.old.files
+            (number_of self.old desc) now call.now) ≡ None) }
     {
         self.store.apply(desc, now, call)
     }

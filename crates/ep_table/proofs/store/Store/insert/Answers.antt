@@ -2,13 +2,16 @@ use Rattle.std.proofs.Common.{map, List, None, Option, Some, ap, arith, length, 
 use Rattle.slab.specs.Slab.{slab_len}
 use Rattle.std.proofs.Common.{count_by, is_some}
 use Rattle.ep_base.specs.declared.object.End.TheVariants.{First}
-use Rattle.ep_table.specs.Stored.{counts, holds_in, names_in, AllKeyed, key_number, queued, number_in, object_in, object_number_in, place_in, places}
+use Rattle.ep_machine.specs.Objects.{Object}
+use Rattle.ep_table.proofs.TakingLemmas.{taking_push}
+use Rattle.ep_table.specs.Taking.{Taking}
+use Rattle.ep_table.specs.Stored.{counts, holds_in, names_in, objects, AllKeyed, key_number, queued, number_in, object_in, object_number_in, place_in, places}
 use Rattle.ep_table.specs.Value.{Queue, Things}
 use Rattle.ep_table.specs.declared.words.Description.{Description}
 use Rattle.ep_table.specs.declared.words.Dying.{Dying}
 use Rattle.ep_table.specs.declared.words.Shared.{Shared}
 use Rattle.ep_table.proofs.QueueLemmas.{keyed_more}
-use Rattle.ep_table.proofs.InsertLemmas.{fewer_one, keys_more, queue_one, Inserted, counted_more, holds_of, holds_one, inserted, inserts_one, places_one}
+use Rattle.ep_table.proofs.InsertLemmas.{fewer_one, keys_more, objects_one, queue_one, Inserted, counted_more, holds_of, holds_one, inserted, inserts_one, places_one}
 use Rattle.ep_table.proofs.ByNumberLemmas.{contents_length}
 use Rattle.ep_table.proofs.store.Store.insert.Given.{Over}
 use Rattle.ep_table.proofs.store.Store.insert.Goals as goal
@@ -48,6 +51,7 @@ invariant_of-self-2 g c =
       queue = subst (λ (xs : List ℕ). Queue (places c.insert_reserved-key.new.self.slots (k.described + 1)) (counts names_in c.insert_reserved-key.new.self.slots (k.described + 1)) (counts holds_in c.insert_reserved-key.new.self.slots (k.described + 1)) xs) (sym (ap queued c.reserve.ensures.dying)) (queue_one k.descriptions.slots c.insert_reserved-key.new.self.slots k.objects.slots c.insert_reserved.new.self.slots k.described k.made c.insert_reserved-key.result c.vacant_key-at.result c.args.object a b h (queued k.dying.items) c.self.invariant.queue);
       keyed = subst (λ (xs : List Dying). AllKeyed (map key_number c.insert_reserved-key.new.self.slots) xs) (sym c.reserve.ensures.dying) (keyed_more (map key_number k.descriptions.slots) (map key_number c.insert_reserved-key.new.self.slots) (record { 0 = c.insert_reserved-key.result }) k.described (keys_more k.descriptions.slots c.insert_reserved-key.new.self.slots c.insert_reserved-key.result (record { number = k.described; object_number = k.made; object = c.vacant_key-at.result; end = First; names = 1; holds = 0 }) a) k.dying.items c.self.invariant.keyed);
       fewer = fewer_one k.descriptions.slots c.insert_reserved-key.new.self.slots k.objects.slots c.insert_reserved.new.self.slots k.described k.made c.insert_reserved-key.result c.vacant_key-at.result c.args.object a b h k.named c.self.invariant.fewer;
+      taken = subst (λ (xs : List (Option Object)). Taking k.taken xs) (sym (objects_one k.descriptions.slots c.insert_reserved-key.new.self.slots k.objects.slots c.insert_reserved.new.self.slots k.described k.made c.insert_reserved-key.result c.vacant_key-at.result c.args.object a b h)) (taking_push k.taken (objects k.objects.slots k.made) c.self.invariant.taken c.args.object c.requires);
     }
 
 pub returns-clause-ok : goal.returns-clause-ok

@@ -2,13 +2,17 @@ use Rattle.std.proofs.Common.{[], ◌++◌, ◌∷◌, None, IsSome, List, Optio
 use Rattle.ep_machine.specs.Lists.{numbered}
 use Rattle.ep_table.specs.ByNumber.{NumberedBy}
 use Rattle.ep_table.specs.Closing.{closed_slot}
-use Rattle.ep_table.specs.Stored.{AllBacked, AllFewer, AllKeyed, AllOwned, counts, holds_in, key_number, names_in, number_in, object_number_in, places, queued, things}
+use Rattle.ep_table.specs.Stored.{AllBacked, AllFewer, AllKeyed, AllOwned, counts, holds_in, key_number, names_in, number_in, object_in, object_number_in, objects, places, queued, things}
 use Rattle.ep_table.specs.Value.{Queue, number_at}
 use Rattle.ep_table.specs.declared.store.Store.TheInside.{Inside}
 use Rattle.ep_table.specs.declared.words.Dying.{Dying}
 use Rattle.ep_table.specs.declared.words.Description.{Description}
 use Rattle.ep_table.specs.declared.words.Shared.{Shared}
-use Rattle.ep_table.proofs.CloseLemmas.{backed_left, counted_left, numbered_left, objects_left, owned_left}
+use Rattle.ep_table.proofs.CloseLemmas.{backed_left, counted_left, numbered_left, objects_left, objects_shut, owned_left}
+use Rattle.ep_machine.specs.Objects.{Object}
+use Rattle.ep_table.proofs.ByNumberLemmas.{content_there}
+use Rattle.ep_table.proofs.TakingLemmas.{taking_closed}
+use Rattle.ep_table.specs.Taking.{Taking, freed_slot}
 use Rattle.ep_table.proofs.DieLemmas.{dies, fewer_left, keyed_left, queue_left}
 use Rattle.ep_table.proofs.QueueLemmas.{keyed_last}
 use Rattle.ep_table.proofs.SoundLemmas.{there}
@@ -60,6 +64,12 @@ invariant_of-self-2 g c =
       queue = subst (λ (xs : List (Option Description)). Queue (places xs k.described) (counts names_in xs k.described) (counts holds_in xs k.described) (queued rest)) (sym f) (queue_left k v i same last.key d is rest last split num);
       keyed = subst (λ (xs : List (Option Description)). AllKeyed (map key_number xs) rest) (sym f) (keyed_left k v i same last.key d is rest last split num);
       fewer = subst (λ (xs : List (Option Description)). AllFewer xs k.named) (sym f) (fewer_left k v i same last.key d is rest last split num);
+      taken =
+          let b = i.backed last.key.0 d is in
+          subst (λ (xs : List (Option Object)). Taking c.free_name.new.taken xs)
+          (sym (ap (λ (ys : List (Option Shared)). objects ys k.made) g ∙ objects_shut ds os k.described k.made i.descriptions i.objects i.backed i.owned last.key d is))
+          (taking_closed k.taken c.free_name.new.taken (objects os k.made) i.taken b.it.number b.it d.end (content_there object_number_in object_in os k.made i.objects d.object b.it b.is)
+          c.close-other.result.2 (c.close-other.ensures.name ∙ ap (λ (o : Option Shared). freed_slot o d.end) b.is) c.free_name.ensures);
     }
 
 pub returns-clause-some : goal.returns-clause-some

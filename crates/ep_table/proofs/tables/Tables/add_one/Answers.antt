@@ -9,7 +9,7 @@ use Rattle.ep_table.proofs.tables.Tables.add_one.Given.{Over}
 use Rattle.ep_table.proofs.tables.Tables.add_one.Goals as goal
 
 there : (g : Over) (c : goal.After-enter g) → IsSome (table_of (value_of c.self.inside).files c.args.pid.0)
-there g c = subst (λ (v : Seen). IsSome (table_of v.files c.args.pid.0)) (sym c.self.view_is) c.requires
+there g c = subst (λ (v : Seen). IsSome (table_of v.files c.args.pid.0)) (sym c.self.view_is) c.requires.process
 
 written : (g : Over) (c : goal.After-enter g) → lists c.enter.new.processes.items ≡ slice_set (lists c.self.inside.processes.items) c.args.pid.0 (entered (get_or (lists c.self.inside.processes.items) c.args.pid.0 None) (record { description = c.in_ok-description.description; cloexec = c.args.cloexec }))
 written g c = lists_entered (λ (p : Process). entered p (record { description = c.in_ok-description.description; cloexec = c.args.cloexec })) c.self.inside.processes.items c.reserve.new.processes.items c.enter.new.processes.items c.args.pid.0 c.reserve.ensures.lists c.enter.ensures

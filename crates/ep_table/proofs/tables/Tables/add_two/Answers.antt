@@ -9,7 +9,7 @@ use Rattle.ep_table.proofs.tables.Tables.add_two.Given.{Over}
 use Rattle.ep_table.proofs.tables.Tables.add_two.Goals as goal
 
 there : (g : Over) (c : goal.After-enter_two g) → IsSome (table_of (value_of c.self.inside).files c.args.pid.0)
-there g c = subst (λ (v : Seen). IsSome (table_of v.files c.args.pid.0)) (sym c.self.view_is) c.requires
+there g c = subst (λ (v : Seen). IsSome (table_of v.files c.args.pid.0)) (sym c.self.view_is) c.requires.process
 
 written : (g : Over) (c : goal.After-enter_two g) → lists c.enter_two.new.processes.items
     ≡ slice_set (lists c.self.inside.processes.items) c.args.pid.0 (entered (entered (get_or (lists c.self.inside.processes.items) c.args.pid.0 None) (record { description = c.in_ok-first.first; cloexec = c.args.cloexec })) (record { description = c.in_ok-first.second; cloexec = c.args.cloexec }))

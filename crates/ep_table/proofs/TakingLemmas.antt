@@ -1,0 +1,212 @@
+-- Which names of sockets are taken, as objects come, change and go.
+use Rattle.std.proofs.Common.{◌≡◌, ◌≢◌, ◌<◌, ◌≤◌, ◌&&◌, ◌++◌, ◌∙◌, ◌∷◌, ◌||◌, [], Bool, List, None, Option, Some, IsSome, ap, arith, false, get_or, inl, inr, is_some, length, min, not, refl, slice_set, subst, suc, sym, true, zero, ℕ}
+use Rattle.std.proofs.Math.Nat.{lt_of_not-le}
+use Rattle.std.specs.List.{list_any}
+use Rattle.std.specs.Prelude.{IfOk, IfSome, IsOk, OnErr, if◌then◌else◌}
+use Rattle.std.specs.declared.alloc.AllocError.{AllocError}
+use Rattle.std.proofs.Common.{Err, IfOk, List, None, Ok, OnErr, OnOk, Option, Result, Some, [], ap, get_or, inl, inr, refl, slice_set, subst, suc, sym, zero, ℕ, ◌∙◌, ◌∷◌, ◌≡◌}
+use Rattle.ep_base.specs.declared.answer.Answer.{Answer}
+use Rattle.ep_base.specs.declared.object.Raised.{Raised}
+use Rattle.std.proofs.lemmas.Bool.{false≢true}
+use Rattle.std.proofs.lemmas.List.{get_or-set_other, get_or-set_same, get_or_past}
+use Rattle.ep_facts.proofs.BoolFacts.{first_of_or as first_false, or_cases, second_of_or as rest_false}
+use Rattle.ep_facts.proofs.NatFacts.{below_or, same_or_not}
+use Rattle.ep_names.proofs.NameLemmas.{same_is}
+use Rattle.ep_base.specs.declared.socket.Name.{Name}
+use Rattle.ep_machine.specs.Names.{is_there, same_name}
+use Rattle.ep_machine.specs.Effect.{Effect, first, unless}
+use Rattle.ep_machine.specs.Objects.{Object, ObjectCall, binds, close_end, connects, found_for, has_name, is_taken, name_in, object_effect, object_refusals}
+use Rattle.ep_names.specs.Names.{holds}
+use Rattle.ep_object.specs.Asked.{found_in, takes_name}
+use Rattle.ep_object.proofs.AnswerLemmas.{waiting_is_given}
+use Rattle.ep_object.specs.Memory.{asked_of, object_waiting}
+use Rattle.ep_object.specs.Naming.{Gains, called}
+use Rattle.ep_base.specs.declared.call.Call.{Call}
+use Rattle.ep_base.specs.declared.call.Call.TheVariants.{Bind, Connect}
+use Rattle.ep_base.specs.declared.errno.Errno.{Errno}
+use Rattle.ep_base.specs.declared.ids.Fd.{Fd}
+use Rattle.ep_base.specs.declared.ids.DescId.{DescId}
+use Rattle.ep_base.specs.declared.object.End.{End}
+use Rattle.ep_object.proofs.NamingLemmas.{close_keeps_name}
+use Rattle.ep_table.proofs.CloseLemmas.{closed_object}
+use Rattle.ep_table.specs.Closing.{closed_in, other_key}
+use Rattle.ep_table.specs.declared.words.Shared.{Shared}
+use Rattle.ep_table.specs.Taking.{AreApart, FindsFree, IsFree, Taking, freed_with}
+
+-- A list in which a place changes.
+module _ {X : Type 0} (p : X → Bool) where
+  -- a place that tests as before
+  pub any_same : (xs : List X) (k : ℕ) (y d : X) → k < length xs → p y ≡ p (get_or xs k d) → list_any p (slice_set xs k y) ≡ list_any p xs
+  any_same [] k y d l h = absurd (omega (arith, l))
+  any_same (x ∷ xs) zero y d l h = ap (λ (b : Bool). b || list_any p xs) h
+  any_same (x ∷ xs) (suc k) y d l h = ap (λ (b : Bool). p x || b) (any_same xs k y d (omega (arith, l)) h)
+
+  more_there : (a b c : Bool) → (a || (b || c)) ≡ (b || (a || c))
+  more_there true true c = refl
+  more_there true false c = refl
+  more_there false b c = refl
+
+  -- one that tested false
+  pub any_more : (xs : List X) (k : ℕ) (y d : X) → k < length xs → p (get_or xs k d) ≡ false → list_any p (slice_set xs k y) ≡ (p y || list_any p xs)
+  any_more [] k y d l h = absurd (omega (arith, l))
+  any_more (x ∷ xs) zero y d l h = ap (λ (b : Bool). p y || (b || list_any p xs)) (sym h)
+  any_more (x ∷ xs) (suc k) y d l h =
+      ap (λ (b : Bool). p x || b) (any_more xs k y d (omega (arith, l)) h) ∙ more_there (p x) (p y) (list_any p xs)
+
+  pub any_end : (xs : List X) (y : X) → p y ≡ false → list_any p (xs ++ y ∷ []) ≡ list_any p xs
+  any_end [] y h = ap (λ (b : Bool). b || false) h
+  any_end (x ∷ xs) y h = ap (λ (b : Bool). p x || b) (any_end xs y h)
+
+  -- who passes stands somewhere
+  pub any_at : (xs : List X) (d : X) → list_any p xs ≡ true → (i : ℕ) × (p (get_or xs i d) ≡ true)
+  any_at [] d h = absurd (false≢true h)
+  any_at (x ∷ xs) d h = elim (or_cases (p x) (list_any p xs) h) [ inl here ↦ (0, here) | inr rest ↦ let w = any_at xs d rest in (suc w.0, w.1) ]
+
+  pub none_pass : (xs : List X) (d : X) → ((i : ℕ) → p (get_or xs i d) ≡ true → ⊥) → list_any p xs ≡ false
+  none_pass xs d h = is_false (list_any p xs) (λ e. let w = any_at xs d e in h w.0 w.1) where
+    is_false : (b : Bool) → (b ≡ true → ⊥) → b ≡ false
+    is_false true h = absurd (h refl)
+    is_false false h = refl
+
+  pub end_passes : (xs : List X) (y d : X) (i : ℕ) → p y ≡ false → p d ≡ false → p (get_or (xs ++ y ∷ []) i d) ≡ true → p (get_or xs i d) ≡ true
+  end_passes [] y d zero h g a = absurd (false≢true (sym h ∙ a))
+  end_passes [] y d (suc i) h g a = absurd (false≢true (sym g ∙ a))
+  end_passes (x ∷ xs) y d zero h g a = a
+  end_passes (x ∷ xs) y d (suc i) h g a = end_passes xs y d i h g a
+
+module _ (names : List Name) (os : List (Option Object)) (t : Taking names os) where
+  -- an object more, without a name
+  pub taking_push : (x : Object) → name_in x ≡ None → Taking names (os ++ Some x ∷ [])
+  taking_push x none =
+      let nameless = λ (n : Name). ap (is_there n) none in record {
+        agree = λ n. t.agree n ∙ sym (any_end (has_name n) os (Some x) (nameless n));
+        apart = λ i j n a b. t.apart i j n (end_passes (has_name n) os (Some x) None i (nameless n) refl a) (end_passes (has_name n) os (Some x) None j (nameless n) refl b);
+      }
+
+  module _ (k : ℕ) (x : Object) (is : get_or os k None ≡ Some x) where
+    within : k < length os
+    within = elim (below_or k (length os)) [ inl l ↦ l | inr l ↦ let e : None ≡ Some x = sym (get_or_past os k None l) ∙ is in absurd cc ]
+
+    here : (y : Option Object) → get_or (slice_set os k y) k None ≡ y
+    here y = get_or-set_same os k y None within
+
+    -- the object changes, and not its name
+    pub taking_kept : (y : Object) → name_in y ≡ name_in x → Taking names (slice_set os k (Some y))
+    taking_kept y same =
+        let as_before = λ (n : Name). ap (is_there n) same ∙ ap (has_name n) (sym is) in
+        let was = λ (n : Name) (i : ℕ) (a : has_name n (get_or (slice_set os k (Some y)) i None) ≡ true).
+        elim (same_or_not i k) as (λ w. has_name n (get_or os i None) ≡ true) [
+          | inl e ↦ ap (λ (j : ℕ). has_name n (get_or os j None)) e ∙ (sym (as_before n) ∙ (ap (has_name n) (sym (here (Some y)) ∙ ap (λ (j : ℕ). get_or (slice_set os k (Some y)) j None) (sym e)) ∙ a))
+          | inr ne ↦ ap (has_name n) (sym (get_or-set_other os k i (Some y) None ne)) ∙ a
+        ] in record {
+          agree = λ n. t.agree n ∙ sym (any_same (has_name n) os k (Some y) None within (as_before n));
+          apart = λ i j n a b. t.apart i j n (was n i a) (was n j b);
+        }
+
+    -- it gets a name that was free
+    pub taking_named : (y : Object) (name : Name) (new : List Name) → name_in x ≡ None → name_in y ≡ Some name → is_taken os name ≡ false
+        → ((n : Name) → holds new n ≡ (same_name name n || holds names n)) → Taking new (slice_set os k (Some y))
+    taking_named y name new nameless gets free more =
+        let none = λ (n : Name). ap (has_name n) is ∙ ap (is_there n) nameless in
+        let is_new = λ (n : Name). ap (is_there n) gets in
+        let other = λ (n : Name) (i : ℕ) (ne : i ≢ k) (a : has_name n (get_or (slice_set os k (Some y)) i None) ≡ true). ap (has_name n) (sym (get_or-set_other os k i (Some y) None ne)) ∙ a in
+        let clash = λ (n : Name) (i j : ℕ) (e : i ≡ k) (ne : j ≢ k) (a : has_name n (get_or (slice_set os k (Some y)) i None) ≡ true) (b : has_name n (get_or (slice_set os k (Some y)) j None) ≡ true).
+        (let at_k : has_name n (Some y) ≡ true = ap (has_name n) (sym (here (Some y)) ∙ ap (λ (m : ℕ). get_or (slice_set os k (Some y)) m None) (sym e)) ∙ a in
+        let it : name ≡ n = same_is name n (sym (is_new n) ∙ at_k) in
+        let no : has_name n (get_or os j None) ≡ false = none_there (has_name n) os (ap (is_taken os) (sym it) ∙ free) j refl in
+        false≢true (sym no ∙ other n j ne b)) in record {
+          agree = λ n. more n ∙ (ap (λ (b : Bool). same_name name n || b) (t.agree n) ∙ sym (any_more (has_name n) os k (Some y) None within (none n) ∙ ap (λ (b : Bool). b || is_taken os n) (is_new n)));
+          apart = λ i j n a b. elim (same_or_not i k) [
+            | inl e ↦ elim (same_or_not j k) [ inl f ↦ e ∙ sym f | inr f ↦ absurd (clash n i j e f a b) ]
+            | inr e ↦ elim (same_or_not j k) [ inl f ↦ absurd (clash n j i f e b a) | inr f ↦ t.apart i j n (other n i e a) (other n j f b) ]
+          ];
+        } where
+          none_there : (p : Option Object → Bool) (xs : List (Option Object)) → list_any p xs ≡ false → (j : ℕ) → p None ≡ false → p (get_or xs j None) ≡ false
+          none_there p [] h j g = g
+          none_there p (x ∷ xs) h zero g = first_false (p x) (list_any p xs) h
+          none_there p (x ∷ xs) h (suc j) g = none_there p xs (rest_false (p x) (list_any p xs) h) j g
+
+    -- it goes, and its name with it
+    pub taking_gone : (new : List Name) → ((n : Name) → holds new n ≡ (not (is_there n (name_in x)) && holds names n)) → Taking new (slice_set os k None)
+    taking_gone new less = record {
+      agree = λ n. less n ∙ (ap (λ (b : Bool). not (is_there n (name_in x)) && b) (t.agree n) ∙ by_test n (is_there n (name_in x)) (ap (has_name n) is));
+      apart = λ i j n a b. t.apart i j n (was n i a) (was n j b);
+    } where
+      was : (n : Name) (i : ℕ) → has_name n (get_or (slice_set os k None) i None) ≡ true → has_name n (get_or os i None) ≡ true
+      was n i a = elim (same_or_not i k) as (λ w. has_name n (get_or os i None) ≡ true) [
+        | inl e ↦ absurd (false≢true (ap (has_name n) (sym (here None) ∙ ap (λ (m : ℕ). get_or (slice_set os k None) m None) (sym e)) ∙ a))
+        | inr ne ↦ ap (has_name n) (sym (get_or-set_other os k i None None ne)) ∙ a
+      ]
+
+      by_test : (n : Name) (b : Bool) → has_name n (get_or os k None) ≡ b → (not b && is_taken os n) ≡ is_taken (slice_set os k None) n
+      by_test n true h = sym (none_pass (has_name n) (slice_set os k None) None (λ i a.
+          let e : i ≡ k = t.apart i k n (was n i a) h in
+          false≢true (ap (has_name n) (sym (here None) ∙ ap (λ (m : ℕ). get_or (slice_set os k None) m None) (sym e)) ∙ a)))
+      by_test n false h = sym (any_same (has_name n) os k None None within (sym h))
+
+    -- what a call makes of the object
+    pub taking_called : (y : Object) (gained : Option Name) (new : List Name) → Gains x y gained → IsFree os gained
+        → ((n : Name) → holds new n ≡ (is_there n gained || holds names n)) → Taking new (slice_set os k (Some y))
+    taking_called y None new gains free more =
+        let kept = taking_kept y gains in record { agree = λ n. more n ∙ kept.agree n; apart = kept.apart }
+    taking_called y (Some name) new gains free more = taking_named y name new gains.0 gains.1 free more
+
+-- A call on an object, and the name that it gets by it.
+asks_for_none : (asked : ObjectCall) (name : Name) → found_in asked ≡ Some name → asked_of asked ≡ 0
+asks_for_none (binds space found) name h = refl
+asks_for_none (connects space found) name h = refl
+asks_for_none asked name h = cc
+
+-- what gets a name is done
+pub named_is_done : (asked : ObjectCall) (gained : Option Name) (waiting : ℕ) → IfSome gained (λ name. found_in asked ≡ Some name) → IsSome gained → min (asked_of asked) waiting ≤ 16
+named_is_done asked None waiting found h = absurd (false≢true h)
+named_is_done asked (Some name) waiting found h = omega (arith, asks_for_none asked name found)
+
+pub gains_done : (r : Result (Answer × Raised) AllocError) (x y : Object) (f : Effect Object) (gained : Option Name) → Gains x f.1 gained → IfOk r (λ p. (p.0, y, p.1) ≡ f) → OnErr r (y ≡ x) → (IsSome gained → IsOk r) → Gains x y gained
+gains_done (Ok p) x y f gained gains ok err done = subst (λ (z : Object). Gains x z gained) (sym (ap (λ (q : Effect Object). q.1) ok)) gains
+gains_done (Err p) x y f None gains ok err done = ap name_in err
+gains_done (Err p) x y f (Some name) gains ok err done = absurd (false≢true (done refl))
+
+pub gained_is_free : (os : List (Option Object)) (asked : ObjectCall) (gained : Option Name) → IfSome gained (λ name. found_in asked ≡ Some name) → FindsFree os asked → IsFree os gained
+gained_is_free os asked None found free = tt
+gained_is_free os asked (Some name) found free = subst (IsFree os) found free
+
+pub none_gained : (asked : ObjectCall) (gained : Option Name) → IfSome gained (λ name. found_in asked ≡ Some name) → takes_name asked ≡ false → gained ≡ None
+none_gained asked None found h = refl
+none_gained asked (Some name) found h = absurd (false≢true (sym h ∙ ap is_some found))
+
+-- An end of an object closes, and the object goes where that was the last.
+pub taking_closed : (names new : List Name) (os : List (Option Object)) → Taking names os → (k : ℕ) (s : Shared) (e : End) → get_or os k None ≡ Some s.object → (freed : Option Name) → freed ≡ freed_with (other_key s e) (closed_in s e).object
+    → ((n : Name) → holds new n ≡ (not (is_there n freed) && holds names n)) → Taking new (slice_set os k (if is_some (other_key s e) then Some (close_end s.object e).0 else None))
+taking_closed names new os t k s e is freed f less = by_key (other_key s e) f where
+  same_name_then : name_in (closed_in s e).object ≡ name_in s.object
+  same_name_then = ap name_in (closed_object s e) ∙ close_keeps_name s.object e
+
+  without : (n : Name) (m : Option Name) → freed ≡ m → holds new n ≡ (not (is_there n m) && holds names n)
+  without n m h = less n ∙ ap (λ (o : Option Name). not (is_there n o) && holds names n) h
+
+  by_key : (o : Option DescId) → freed ≡ freed_with o (closed_in s e).object → Taking new (slice_set os k (if is_some o then Some (close_end s.object e).0 else None))
+  by_key None h = taking_gone names os t k s.object is new (λ n. without n (name_in s.object) (h ∙ same_name_then))
+  by_key (Some key) h =
+      let kept = taking_kept names os t k s.object is (close_end s.object e).0 (close_keeps_name s.object e) in
+      record { agree = λ n. without n None h ∙ kept.agree n; apart = kept.apart }
+
+-- want of memory comes last
+last_if : (o : Option Errno) (x : Object) (f : Effect Object) (name : Name) → name_in x ≡ None → name_in (unless o x f).1 ≡ Some name → o ≡ None
+last_if None x f name none some = refl
+last_if (Some e) x f name none some = let clash : None ≡ Some name = sym none ∙ some in absurd cc
+
+pub named_is_last : (x : Object) (e : End) (now : ℕ) (asked : ObjectCall) (gained : Option Name) → Gains x (called x e now asked) gained → (gained ≡ None → ⊥) → first (object_refusals x e now asked) ≡ None
+named_is_last x e now asked None gains some = absurd (some refl)
+named_is_last x e now asked (Some name) gains some = last_if (first (object_refusals x e now asked)) x (object_effect x e now asked) name gains.0 gains.1
+
+pub long_is_last : (r : Result (Answer × Raised) AllocError) (x : Object) (e : End) (now : ℕ) (asked : ObjectCall) → (min (asked_of asked) (object_waiting x e asked) ≤ 16 → IsOk r) → OnErr r (first (object_refusals x e now asked) ≡ None)
+long_is_last (Ok p) x e now asked inline = tt
+long_is_last (Err p) x e now asked inline =
+    let long = lt_of_not-le (λ h. false≢true (inline h)) in waiting_is_given x e now asked (omega (arith, long))
+
+-- any other call gives no name
+pub none_found : (taken : Name → Bool) (call : Call) → ((fd : Fd) (name : Name) → call ≡ Bind fd name → ⊥) → ((fd : Fd) (name : Name) → call ≡ Connect fd name → ⊥) → None ≡ found_for taken call
+none_found taken (Bind fd name) b c = absurd (b fd name refl)
+none_found taken (Connect fd name) b c = absurd (c fd name refl)
+none_found taken call b c = refl

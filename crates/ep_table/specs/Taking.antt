@@ -1,0 +1,36 @@
+-- Which names of sockets are taken: those that objects have, each by one.
+use Rattle.std.specs.Prelude.{◌≡◌, List, None, Option, Some, false, slice_index_or, true, ℕ}
+use Rattle.ep_base.specs.declared.ids.DescId.{DescId}
+use Rattle.ep_base.specs.declared.object.End.{End}
+use Rattle.ep_base.specs.declared.socket.Name.{Name}
+use Rattle.ep_machine.specs.Objects.{Object, ObjectCall, has_name, is_taken, name_in}
+use Rattle.ep_names.specs.Names.{holds}
+use Rattle.ep_object.specs.Asked.{found_in}
+use Rattle.ep_table.specs.Closing.{closed_in, other_key}
+use Rattle.ep_table.specs.declared.words.Shared.{Shared}
+
+-- no two objects have one name
+abbrev pub AreApart : List (Option Object) → Type 0
+AreApart objects = (i j : ℕ) (name : Name) → has_name name (slice_index_or objects i None) ≡ true
+    → has_name name (slice_index_or objects j None) ≡ true → i ≡ j
+
+pub record Taking (names : List Name) (objects : List (Option Object)) : Type 0 where
+  pub agree : (name : Name) → holds names name ≡ is_taken objects name
+  pub apart : AreApart objects
+
+-- the name that was found for a call is free
+abbrev pub IsFree : List (Option Object) → Option Name → Type 0
+IsFree objects None = Unit {0}
+IsFree objects (Some name) = is_taken objects name ≡ false
+
+abbrev pub FindsFree : List (Option Object) → ObjectCall → Type 0
+FindsFree objects asked = IsFree objects (found_in asked)
+
+-- the name that goes with an object, where the other end has no description
+abbrev pub freed_with : Option DescId → Object → Option Name
+freed_with None x = name_in x
+freed_with (Some key) x = None
+
+abbrev pub freed_slot : Option Shared → End → Option Name
+freed_slot None e = None
+freed_slot (Some s) e = freed_with (other_key s e) (closed_in s e).object
