@@ -10,6 +10,7 @@ use Rattle.ep_base.specs.declared.call.Call.TheVariants.{EpollCtl, EpollWait, Ti
 use Rattle.ep_base.specs.declared.call.Event.{Event}
 use Rattle.ep_base.specs.declared.call.Event.TheVariants.{Call as CallOf, Resume, Tick}
 use Rattle.ep_base.specs.declared.ids.Pid.{Pid}
+use Rattle.ep_base.specs.declared.mask.Mask.{Mask}
 use Rattle.ep_calls.proofs.ClockLemmas.{controls_stay, nowhere_stays}
 use Rattle.ep_calls.proofs.FilesCallLemmas.{does_limits}
 use Rattle.ep_calls.specs.FileCall.{CallsAsked, CallsFiles, IsFileCall}
@@ -19,7 +20,7 @@ use Rattle.ep_calls.specs.Control.{Controls}
 use Rattle.ep_calls.specs.declared.control.Control.{Control}
 use Rattle.ep_calls.specs.declared.control.Plan.{Plan}
 use Rattle.ep_calls.specs.declared.outcome.Outcome.{Outcome}
-use Rattle.ep_machine.specs.Objects.{ObjectCall, object_call, object_refusals, plain}
+use Rattle.ep_machine.specs.Objects.{ObjectCall, asks, object_refusals, plain}
 use Rattle.ep_machine.specs.Tables.{create_one, one_free, one_refusals, slot}
 use Rattle.ep_alarms.proofs.AreSetLemmas.{set_but, set_kept, timer_in}
 use Rattle.ep_alarms.proofs.FilesCallLemmas.{HaveObjects, MakesNoTimer, made_alone, others_left, timer_made}
@@ -239,6 +240,13 @@ module _ (p q : Parts) (a : Moments) (sound : SoundTables p.tables) (sound_now :
         (λ e refuses. subst (λ (r : Answer). CreatesTimer r q pid a) (sym refuses.answers) (refused_set refuses.tables))
         (λ accepted done. subst (λ (r : Answer). CreatesTimer r q pid a) (sym done.answers) (created few there accepted done.files))
 
+-- any call but an epoll_ctl and a wait is on files
+pub is_file_call : (call : Call) → ((epfd : Fd) (op : ℤ) (fd : Fd) (mask : Mask) (tag : ℕ) → call ≡ EpollCtl epfd op fd mask tag → ⊥)
+    → ((epfd : Fd) (most timeout : ℤ) → call ≡ EpollWait epfd most timeout → ⊥) → IsFileCall call
+is_file_call (EpollCtl epfd op fd mask tag) no_ctl no_wait = no_ctl epfd op fd mask tag refl
+is_file_call (EpollWait epfd most timeout) no_ctl no_wait = no_wait epfd most timeout refl
+is_file_call call no_ctl no_wait = tt
+
 -- What a call does to the tables.
 pub as_files : (pid : ℕ) (call : Call) (answer : Answer) (p q : Parts) → IsFileCall call → CallsFiles pid call answer p q → CallsTables pid call answer p q
 as_files pid (EpollCtl epfd op fd mask tag) answer p q is did = absurd is
@@ -294,7 +302,7 @@ module _ (event : Event) (found : Option DescId) (outcome : Outcome) (has_room :
         → IsKept q.tables desc.0 a × AreSetBut q.tables q.clock desc.0 a
     on_object (EpollCtl epfd op fd mask tag) desc d at named did = absurd (none-some d (sym named ∙ at))
     on_object (EpollWait epfd most timeout) desc d at named did = absurd (none-some d (sym named ∙ at))
-    on_object call desc d at named did = on_asked call (object_call call) desc d at named did
+    on_object call desc d at named did = on_asked call (asks p.tables.files.objects call) desc d at named did
 
     call_sets : (desc : DescId) (d : ℕ) → number_under p.tables desc ≡ Some d → number_under p.tables desc ≡ called_in p.tables.files (CallOf pid call)
         → (b : Moments) → (IsKept q.tables desc.0 a → AreSetBut q.tables q.clock desc.0 a → AreSet q.tables q.clock b) → AreSetSince outcome.raising q.tables q.clock b
@@ -316,7 +324,7 @@ module _ (event : Event) (found : Option DescId) (outcome : Outcome) (has_room :
     by_other (EpollCtl epfd op fd mask tag) creates none did = on_files did
     by_other (EpollWait epfd most timeout) creates none did = on_files did
     by_other (TimerFd kind cloexec) creates none did = absurd (creates kind cloexec refl)
-    by_other call creates none did = by_asked call (object_call call) tt none did
+    by_other call creates none did = by_asked call (asks p.tables.files.objects call) tt none did
 
     none_in : found ≡ None → called_in p.tables.files (CallOf pid call) ≡ None
     none_in none =

@@ -5,7 +5,7 @@ use Rattle.std.proofs.lemmas.Bool.{cases_eq, cases_lt}
 use Rattle.std.proofs.lemmas.List.{get_or_append_left, get_or_past}
 use Rattle.ep_base.specs.Limits.{Limits}
 use Rattle.ep_base.specs.declared.call.Call.{Call}
-use Rattle.ep_base.specs.declared.call.Call.TheVariants.{Dup2, EpollCreate, EventFd, Pipe as PipeCall, Plain, SocketPair, TimerFd}
+use Rattle.ep_base.specs.declared.call.Call.TheVariants.{Dup2, EpollCreate, EventFd, Pipe as PipeCall, Plain, Socket, SocketPair, TimerFd}
 use Rattle.ep_base.specs.declared.object.End.{End}
 use Rattle.ep_base.specs.declared.object.End.TheVariants.{First, Second}
 use Rattle.ep_machine.specs.Files.{Files, Place, named_by, numbers_of, object_at, place_of}
@@ -110,6 +110,7 @@ pub others_left : (limits : Limits) (f : Files) (p : ℕ) (busy : Bool) (call : 
 others_left limits f p busy (PipeCall cloexec) objects is d = two_other f _ p cloexec objects refl d
 others_left limits f p busy (SocketPair cloexec) objects is d = two_other f _ p cloexec objects refl d
 others_left limits f p busy (EventFd init semaphore cloexec) objects is d = one_other f _ p cloexec objects refl d
+others_left limits f p busy (Socket family cloexec) objects is d = one_other f _ p cloexec objects refl d
 others_left limits f p busy (Plain cloexec) objects is d = one_other f _ p cloexec objects refl d
 others_left limits f p busy (EpollCreate cloexec) objects is d = one_other f _ p cloexec objects refl d
 others_left limits f p busy (Dup2 fd to) objects is d = name_again f p fd.0 to.0 (named_by f p fd.0) d

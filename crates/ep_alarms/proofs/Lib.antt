@@ -8,3 +8,4 @@ pub mod AreSetLemmas
 pub mod FilesCallLemmas
 pub mod ObjectEffectLemmas
 pub mod ChangesLemmas
+pub mod CalledLemmas

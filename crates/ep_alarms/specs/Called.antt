@@ -5,7 +5,7 @@ use Rattle.ep_base.specs.declared.call.Event.TheVariants.{Call as CallOf}
 use Rattle.ep_base.specs.declared.ids.DescId.{DescId}
 use Rattle.ep_base.specs.declared.ids.Fd.{Fd}
 use Rattle.ep_machine.specs.Files.{Files, under}
-use Rattle.ep_machine.specs.Objects.{ObjectCall, object_call}
+use Rattle.ep_machine.specs.Objects.{ObjectCall, asks}
 use Rattle.ep_table.specs.Value.{Seen, number_under as desc_number}
 
 -- its number, if a call that is taken apart so is on an object, and its descriptor names one
@@ -14,7 +14,7 @@ asked_in files p None = None
 asked_in files p (Some on) = under files p on.0.0
 
 abbrev pub called_in : Files → Event → Option ℕ
-called_in files (CallOf p call) = asked_in files p.0 (object_call call)
+called_in files (CallOf p call) = asked_in files p.0 (asks files.objects call)
 called_in files event = None
 
 -- this is its key

@@ -15,6 +15,7 @@ pub fn find_called(parts: &Parts, event: &Event) -> Option<DescId>
     let Event::Call { pid, call } = event else {
         return None;
     };
-    let (fd, _) = ObjectCall::of(call)?;
+    // (which name is free for it plays no part)
+    let (fd, _) = ObjectCall::of(call, None)?;
     parts.tables.lookup(*pid, fd)
 }

@@ -57,6 +57,10 @@ tells_out h out kernel before last keeps taken all is e =
     let none : length kernel.past ≤ length kernel.taken = omega (arith, none_here h.items e, length-append h.taken h.items, ap length all, ap length taken) in
     keeps.1 none ∙ last_is kernel.past before last is
 
+-- nothing was recorded yet
+pub keeps_none : (kernel : Book) (out : Past) → kernel.taken ≡ [] → kernel.past ≡ [] → out.items ≡ [] → KeepsLast kernel out
+keeps_none kernel out taken past items = (omega (arith, ap length taken, ap length past), λ _. ap last_of items ∙ sym (ap last_of past))
+
 some_when : (items : List Record) (empty : Bool) → (IsTrue empty ↔ items ≡ []) → empty ≡ false → 0 < length items
 some_when [] empty tells e = let both : true ≡ false = sym (tells.1 refl) ∙ e in cc
 some_when (x ∷ xs) empty tells e = omega arith

@@ -40,7 +40,7 @@ pub enum Call {
     SocketPair {
         cloexec: bool,
     },
-    /// socket(2) of a stream socket. No kernel has one yet: EINVAL.
+    /// socket(2) of a stream socket without a connection and without a name. Answered by `Answer::Num`. EMFILE, ENFILE.
     Socket {
         family: Family,
         cloexec: bool,
@@ -95,7 +95,7 @@ pub enum Call {
         bytes: Buffer,
     },
     /// shutdown(2) of the directions that `how` names; one that is shut already changes nothing. Answered by
-    /// `Answer::Done`. EBADF, ENOTSOCK if `fd` names no socket.
+    /// `Answer::Done`. EBADF, ENOTSOCK if `fd` names no socket, ENOTCONN if that has no connection.
     Shutdown {
         fd: Fd,
         how: How,
@@ -111,12 +111,16 @@ pub enum Call {
     TakeError {
         fd: Fd,
     },
-    /// getsockname(2), or getpeername(2) with `peer`. Answered by `Answer::Named`. EBADF, ENOTSOCK.
+    /// getsockname(2), or getpeername(2) with `peer`. Answered by `Answer::Named`. EBADF, ENOTSOCK, and with `peer`
+    /// ENOTCONN if there is no connection.
     SocketName {
         fd: Fd,
         peer: bool,
     },
-    /// bind(2): gives a socket a name. No kernel has a socket yet that could take one: EINVAL.
+    /// bind(2): gives a socket a name, which it keeps until it dies. Number 0 asks for any: the lowest from 32,768 to
+    /// 60,999 that is free in that space. Answered by `Answer::Done`. EBADF, ENOTSOCK, EAFNOSUPPORT (TCP) or EINVAL
+    /// (Unix) for a name of the other family, EINVAL if it has a name or a connection or its connect failed, EADDRINUSE
+    /// if the name is taken or none is free.
     Bind {
         fd: Fd,
         name: Name,
@@ -126,7 +130,10 @@ pub enum Call {
         fd: Fd,
         backlog: i32,
     },
-    /// connect(2) to the socket that listens at this name. No kernel has one yet: EINVAL.
+    /// connect(2) to the socket that listens at this name. None does yet. So a Unix socket is refused: EBADF, ENOTSOCK,
+    /// EINVAL for a name of TCP, ECONNREFUSED. A TCP socket is answered by `Answer::Connecting`, gets a name if it has
+    /// none, and has failed when the call returns. The next connect tells so by `Answer::Failed`: ECONNREFUSED, or
+    /// ECONNABORTED if that was taken. EBADF, ENOTSOCK, EAFNOSUPPORT for a name of Unix, EADDRNOTAVAIL if none is free.
     Connect {
         fd: Fd,
         name: Name,

@@ -1,5 +1,5 @@
 -- A call on the tables, as the machine makes it.
-use Rattle.std.proofs.Common.{◌≡◌, ℕ, Bool, List, [], Option, Some, None, refl, ap, sym, subst}
+use Rattle.std.proofs.Common.{◌≡◌, ℕ, Bool, List, [], Option, Some, None, refl, ap, sym, subst, ◌∙◌}
 use Rattle.std.specs.Prelude.{MatchOption}
 use Rattle.std.proofs.lemmas.Option.{none-some}
 use Rattle.ep_base.specs.Limits.{Limits}
@@ -12,7 +12,7 @@ use Rattle.ep_interest.specs.Registrations.{Registrations}
 use Rattle.ep_machine.specs.Effect.{first}
 use Rattle.ep_machine.specs.Files.{Files, named_by}
 use Rattle.ep_machine.specs.FilesCalls.{FilesCall}
-use Rattle.ep_machine.specs.Objects.{ObjectCall, object_call}
+use Rattle.ep_machine.specs.Objects.{Object, ObjectCall, asks}
 use Rattle.ep_machine.specs.Refusal.{call_refusals, on_object, refusals_on}
 use Rattle.ep_machine.specs.State.{Change, State, Waiter}
 use Rattle.ep_machine.specs.Step.{call_change, change_on, object_change}
@@ -68,14 +68,17 @@ module _ (call : FilesCall) (answer : Answer) (v new : Seen) (does : Does call a
       })
       does
 
--- what the machine asks of such a call and does
-abbrev pub IsOnObject : Fd → ObjectCall → Call → Type 0
-IsOnObject fd asked call = (limits : Limits) (s : State) (caller p : ℕ) → (call_refusals limits s p call ≡ on_object s p fd.0 asked) × (call_change limits s caller p call [] ≡ Some (object_change s p fd.0 asked))
+-- what the machine asks of such a call and does, beside these objects
+abbrev pub IsOnObject : List (Option Object) → Fd → ObjectCall → Call → Type 0
+IsOnObject objects fd asked call = (limits : Limits) (s : State) (caller p : ℕ) → s.files.objects ≡ objects
+    → (call_refusals limits s p call ≡ on_object s p fd.0 asked) × (call_change limits s caller p call [] ≡ Some (object_change s p fd.0 asked))
 
-pub on_object_is : (call : Call) (fd : Fd) (asked : ObjectCall) → object_call call ≡ Some (fd, asked) → IsOnObject fd asked call
-on_object_is (EpollCtl epfd op at mask tag) fd asked h = absurd (none-some (fd, asked) h)
-on_object_is (EpollWait epfd most timeout) fd asked h = absurd (none-some (fd, asked) h)
-on_object_is call fd asked h = λ limits s caller p. (ap (refusals_on limits s p call) h, ap (λ (on : Option (Fd × ObjectCall)). Some (change_on limits s p call on)) h)
+pub on_object_is : (objects : List (Option Object)) (call : Call) (fd : Fd) (asked : ObjectCall) → asks objects call ≡ Some (fd, asked) → IsOnObject objects fd asked call
+on_object_is objects (EpollCtl epfd op at mask tag) fd asked h = absurd (none-some (fd, asked) h)
+on_object_is objects (EpollWait epfd most timeout) fd asked h = absurd (none-some (fd, asked) h)
+on_object_is objects call fd asked h = λ limits s caller p same.
+    let is : asks s.files.objects call ≡ Some (fd, asked) = ap (λ (os : List (Option Object)). asks os call) same ∙ h in
+    (ap (refusals_on limits s p call) is, ap (λ (on : Option (Fd × ObjectCall)). Some (change_on limits s p call on)) is)
 
 module _ (v new : Seen) (p : ℕ) (fd : Fd) (now : ℕ) (asked : ObjectCall) (answer : Answer) (calls : CallsObject p fd now asked answer v new) where
   pub object_limits : new.limits ≡ v.limits
@@ -94,10 +97,10 @@ module _ (v new : Seen) (p : ℕ) (fd : Fd) (now : ℕ) (asked : ObjectCall) (an
       subst (λ (n : ℕ). P n s.files) (sym stands.now) (subst (P now) (sym stands.files)
       (does_goes (object_call_of v.files p fd.0 now asked) answer v new calls g r linked placed now s (affected_raises v.files (named_by v.files p fd.0) (object_effect_of v.files p fd.0 now asked)) stands))
 
-  pub object_called : {ws : List Waiter} (call : Call) (g : List Link) (limits : Limits) (r : Registrations) (s : State) (caller : ℕ) → AreLinked v r → ArePlaced v ws → Stands v r ws now s → v.limits ≡ limits → IsOnObject fd asked call
+  pub object_called : {ws : List Waiter} (call : Call) (g : List Link) (limits : Limits) (r : Registrations) (s : State) (caller : ℕ) → AreLinked v r → ArePlaced v ws → Stands v r ws now s → v.limits ≡ limits → IsOnObject v.files.objects fd asked call
       → Goes (call_refusals limits s p call) (call_change limits s caller p call []) s answer [] (record { tables = new; interest = r; graph = g; parked = ws; clock = now })
   object_called {ws = ws} call g limits r s caller linked placed stands same is =
-      let both = is limits s caller p in
+      let both = is limits s caller p (ap (λ (f : Files). f.objects) stands.files) in
       let P : List (Bool × Errno) → Option Change → Type 0 = λ tests o. Goes tests o s answer [] (record { tables = new; interest = r; graph = g; parked = ws; clock = now }) in
       subst (λ (tests : List (Bool × Errno)). P tests (call_change limits s caller p call [])) (sym both.0)
       (subst (λ (o : Option Change). P (on_object s p fd.0 asked) o) (sym both.1) (object_goes g r s linked placed stands))

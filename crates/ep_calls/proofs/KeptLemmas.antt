@@ -5,14 +5,15 @@ use Rattle.ep_base.specs.Answer.{FitsInline}
 use Rattle.ep_base.specs.Limits.{Limits}
 use Rattle.ep_base.specs.declared.answer.Answer.{Answer}
 use Rattle.ep_base.specs.declared.call.Call.{Call}
-use Rattle.ep_base.specs.declared.call.Call.TheVariants.{EpollCtl, EpollWait, Pipe as PipeCall}
+use Rattle.ep_base.specs.declared.call.Call.TheVariants.{Bind, EpollCtl, EpollWait, Pipe as PipeCall}
 use Rattle.ep_base.specs.declared.call.Event.{Event}
 use Rattle.ep_base.specs.declared.call.Event.TheVariants.{Call as CallOf, Resume, Tick}
 use Rattle.ep_base.specs.declared.errno.Errno.{Errno}
 use Rattle.ep_base.specs.declared.ids.Fd.{Fd}
+use Rattle.ep_base.specs.declared.socket.Name.{Name}
 use Rattle.ep_machine.specs.Files.{Files}
 use Rattle.ep_machine.specs.FilesCalls.{files_call}
-use Rattle.ep_machine.specs.Objects.{ObjectCall, object_call}
+use Rattle.ep_machine.specs.Objects.{ObjectCall, asks, found_for, is_taken, object_call}
 use Rattle.ep_machine.specs.Refusal.{refusals}
 use Rattle.ep_machine.specs.Report.{plainly}
 use Rattle.ep_machine.specs.State.{Change, State}
@@ -43,6 +44,11 @@ files_fit : (limits : Limits) (f : Files) (p : ℕ) (busy : Bool) (call : Call) 
 files_fit limits f p busy (PipeCall cloexec) = tt
 files_fit limits f p busy call = tt
 
+-- whatever name was found for it
+kept_anyway : (a b : Option Name) (call : Call) (kept : Bool) (o : Outcome) → KeepsAsked (object_call a call) kept o → KeepsAsked (object_call b call) kept o
+kept_anyway a b (Bind fd name) kept o h = h
+kept_anyway a b call kept o h = h
+
 module _ (limits : Limits) (s : State) (caller : ℕ) (o : Outcome) (kept : Bool) (asked : kept ≡ true) (none : spare_in o.copies ≡ None) where
   told_asked : (p : ℕ) (call : Call) (on : Option (Fd × ObjectCall)) (made : Change) → plainly o.picked (change_on limits s p call on) ≡ Some made → made.0 ≡ o.answer → KeepsAsked on kept o → IsInline o.answer o.picked
   told_asked p call (Some on) made is same keeps = keeps asked none
@@ -51,7 +57,8 @@ module _ (limits : Limits) (s : State) (caller : ℕ) (o : Outcome) (kept : Bool
   told_call : (p : ℕ) (call : Call) (made : Change) → call_change limits s caller p call o.picked ≡ Some made → made.0 ≡ o.answer → KeepsCall call kept o → IsInline o.answer o.picked
   told_call p (EpollCtl epfd op fd mask tag) made is same keeps = told_plainly o.picked _ made o.answer is same (ctl_fits s p epfd.0 op fd.0 mask.0 tag)
   told_call p (EpollWait epfd most timeout) made is same keeps = keeps asked none
-  told_call p call made is same keeps = told_asked p call (object_call call) made is same keeps
+  told_call p call made is same keeps =
+      told_asked p call (asks s.files.objects call) made is same (kept_anyway None (found_for (is_taken s.files.objects) call) call kept o keeps)
 
   told : (r : Option Errno) (c : Option Change) (new : Parts) → ((made : Change) → c ≡ Some made → made.0 ≡ o.answer → IsInline o.answer o.picked)
       → MatchOption r (Makes c o.answer new) (λ e. Refuses s e o.answer o.picked new) → IsInline o.answer o.picked
@@ -70,7 +77,7 @@ kept_asked (Some on) kept o h = h
 
 pub any_call : (call : Call) (kept : Bool) (o : Outcome) → IsKept kept o → KeepsCall call kept o
 any_call (EpollWait epfd most timeout) kept o h = h
-any_call call kept o h = kept_asked (object_call call) kept o h
+any_call call kept o h = kept_asked (object_call None call) kept o h
 
 pub table_call_kept : (call : Call) (kept : Bool) (o : Outcome) → IsTableCall call → KeepsCall call kept o
 table_call_kept (EpollCtl epfd op fd mask tag) kept o h = absurd h

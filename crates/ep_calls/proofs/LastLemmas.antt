@@ -1,5 +1,5 @@
 -- That nothing refuses a call or an event which wants memory.
-use Rattle.std.proofs.Common.{◌≡◌, ◌∙◌, ◌≤◌, ◌∷◌, ℕ, Bool, IsSome, List, None, Option, Some, ap, arith, false, true, find, is_none, is_some, length, min, refl, unwrap_or}
+use Rattle.std.proofs.Common.{◌≡◌, ◌∙◌, ◌≤◌, ◌∷◌, ℕ, Bool, Err, IsSome, List, None, Ok, OnErr, Option, Result, Some, ap, arith, false, true, find, is_none, is_some, length, min, refl, unwrap_or}
 use Rattle.std.proofs.Math.Nat.{lt_of_not-le}
 use Rattle.ep_base.specs.declared.errno.Errno.TheVariants.{Ebusy, Esrch}
 use Rattle.std.specs.List.{list_any}
@@ -14,8 +14,8 @@ use Rattle.ep_base.specs.declared.object.End.{End}
 use Rattle.ep_base.specs.declared.record.Record.{Record}
 use Rattle.ep_interest.specs.Registrations.{has_key}
 use Rattle.ep_machine.specs.Effect.{first}
-use Rattle.ep_machine.specs.Files.{Files, named_by, table_of, under}
-use Rattle.ep_machine.specs.Objects.{Object, ObjectCall, object_call, object_refusals}
+use Rattle.ep_machine.specs.Files.{Files, named_by, side_of, table_of, under}
+use Rattle.ep_machine.specs.Objects.{Object, ObjectCall, asks, object_refusals}
 use Rattle.ep_machine.specs.Refusal.{call_refusals, refusals}
 use Rattle.ep_machine.specs.Run.{run}
 use Rattle.ep_machine.specs.State.{State, Waiter, opening}
@@ -26,7 +26,7 @@ use Rattle.ep_object.proofs.AnswerLemmas.{waiting_is_given}
 use Rattle.ep_object.specs.Memory.{asked_of, object_waiting}
 use Rattle.ep_park.specs.Waiters.{is_caller, parked}
 use Rattle.ep_park.specs.declared.waiter.Waiter.{Waiter as ParkedWaiter}
-use Rattle.ep_table.specs.Value.{Sound, number_under}
+use Rattle.ep_table.specs.Value.{Seen, Sound, content_of, number_of, number_under, refusals_at}
 use Rattle.ep_law.proofs.GraphLemmas.{graph_stays_legal}
 use Rattle.ep_law.proofs.SoundLemmas.{sound_begun}
 use Rattle.ep_view.proofs.AtRestLemmas.{quiet_begun}
@@ -48,17 +48,25 @@ use Rattle.ep_calls.proofs.ObjectCallLemmas.{refusals_are}
 use Rattle.ep_calls.proofs.RegistrationLemmas.{caller_waits}
 use Rattle.ep_calls.proofs.ResumeLemmas.{there}
 
--- a call that may want memory: more bytes are asked for, and wait, than an answer holds in itself
+-- a call that may want memory for its bytes: more are asked for, and wait, than an answer holds in itself
 long_call : (x : Object) (e : End) (now : ℕ) (asked : ObjectCall) → (min (asked_of asked) (object_waiting x e asked) ≤ 16 → ⊥) → first (object_refusals x e now asked) ≡ None
 long_call x e now asked h = let long = lt_of_not-le h in waiting_is_given x e now asked (omega (arith, long))
 
+-- the same at a description
+pub long_last : (v : Seen) (desc : DescId) (now : ℕ) (asked : ObjectCall) → (min (asked_of asked) (waiting_at v desc asked) ≤ 16 → ⊥) → first (refusals_at v.files (number_of v desc) now asked) ≡ None
+long_last v desc now asked h = long_call (content_of v.files (number_of v desc)) (side_of v.files (number_of v desc)) now asked h
+
+pub on_err : {X E Q : Type 0} (r : Result X E) → Q → OnErr r Q
+on_err (Ok x) h = tt
+on_err (Err e) h = h
+
 module _ (p : Parts) (pid : ℕ) where
   pub object_last : (fd : Fd) (desc : DescId) (asked : ObjectCall) → number_under p.tables desc ≡ under p.tables.files pid fd.0 → IsSome (number_under p.tables desc)
-      → (min (asked_of asked) (waiting_at p.tables desc asked) ≤ 16 → ⊥) → (call : Call) → object_call call ≡ Some (fd, asked) → NothingRefusesCall p pid call
+      → first (refusals_at p.tables.files (number_of p.tables desc) p.clock asked) ≡ None → (call : Call) → asks p.tables.files.objects call ≡ Some (fd, asked) → NothingRefusesCall p pid call
   object_last fd desc asked found lives h call is = λ n s at sound quiet legal stands.
-      ap first (on_object_is call fd asked is p.tables.limits s 0 pid).0
+      ap first (on_object_is p.tables.files.objects call fd asked is p.tables.limits s 0 pid (ap (λ (f : Files). f.objects) stands.files)).0
       ∙ ((λ i. first (object_call_of (stands.files i) pid fd.0 (stands.now i) asked).refusals)
-      ∙ (refusals_are p.tables pid fd.0 desc found lives p.clock asked ∙ long_call _ _ p.clock asked h))
+      ∙ (refusals_are p.tables pid fd.0 desc found lives p.clock asked ∙ h))
 
   pub control_last : (args : Control) (plan : Plan) → AreCoherent p → Sound p.tables → IsPlan p pid args plan → list_any (has_key plan.named.instance args.fd plan.named.desc) p.interest.entries ≡ false
       → ((exclusive : Bool) → first (room_refusals (is_add (code_of plan.operation)) (is_mod (code_of plan.operation)) false exclusive (is_deep_at p.tables p.graph plan.named) p.tables.limits.watches (length p.interest.entries)) ≡ None) → NothingRefusesCall p pid (control_call args)

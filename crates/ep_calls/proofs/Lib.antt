@@ -54,4 +54,5 @@ pub mod SparedLemmas
 pub mod LastLemmas
 pub mod AttendLemmas
 pub mod FileCallLemmas
+pub mod AskedLemmas
 pub mod ReplyLemmas

@@ -10,7 +10,7 @@ use Rattle.ep_machine.specs.Effect.{first}
 use Rattle.ep_machine.specs.Files.{named_by, object_of}
 use Rattle.ep_view.specs.AtRest.{can_be_watched}
 use Rattle.ep_base.specs.declared.ids.Fd.{Fd}
-use Rattle.ep_machine.specs.Objects.{ObjectCall, object_call}
+use Rattle.ep_machine.specs.Objects.{ObjectCall, asks, object_call}
 use Rattle.ep_machine.specs.Readiness.{is_ready}
 use Rattle.ep_machine.specs.Refusal.{call_refusals}
 use Rattle.ep_machine.specs.Report.{is_pick, plainly, report}
@@ -19,6 +19,7 @@ use Rattle.ep_machine.specs.State.{Change, State}
 use Rattle.ep_machine.specs.Step.{call_change, change_on}
 use Rattle.ep_machine.specs.Waits.{wait_for}
 use Rattle.ep_machine.specs.Watches.{number_in}
+use Rattle.ep_calls.proofs.AskedLemmas.{asks_none}
 use Rattle.ep_calls.specs.Moves.{RaisesCall}
 use Rattle.ep_calls.specs.Raising.{Raises}
 use Rattle.ep_base.specs.declared.call.Event.TheVariants.{Resume}
@@ -37,7 +38,7 @@ use Rattle.ep_table.specs.Value.{Seen}
 -- any call but one on the object that a descriptor names, and epoll_ctl
 abbrev pub IsOffObject : Call → Type 0
 IsOffObject (EpollCtl epfd op fd mask tag) = ⊥
-IsOffObject call = object_call call ≡ None
+IsOffObject call = object_call None call ≡ None
 
 -- as a call on the tables alone is
 pub off_object : (call : Call) → IsTableCall call → IsOffObject call
@@ -82,7 +83,7 @@ call_unraising limits s caller p (EpollWait epfd most timeout) ks t h =
     (if_unraising (is_pick s e (number_in most) ks) _ None (some_unraising _ (λ d w. refl)) none_unraising)
     (plain_unraising ks _ (wait_raises s caller p e (number_in most) timeout))
 call_unraising limits s caller p (EpollCtl epfd op fd mask tag) ks t h = absurd t
-call_unraising limits s caller p call ks t h = plain_unraising ks _ (files_raise limits s p call (object_call call) t)
+call_unraising limits s caller p call ks t h = plain_unraising ks _ (files_raise limits s p call (asks s.files.objects call) (asks_none s.files.objects call t))
 
 nowhere_bits : (raising : Raising) (v : Seen) (now d : ℕ) → raising ≡ Nowhere → raised_bits raising v now d ≡ 0
 nowhere_bits raising v now d h = ap (λ (r : Raising). raised_bits r v now d) h

@@ -9,7 +9,7 @@ use Rattle.smallvec.specs.SmallVec.{HasRoomFor}
 use Rattle.smallvec.specs.declared.SmallVec.{SmallVec}
 use Rattle.ep_calls.specs.Reply.{IsSettled}
 use Rattle.ep_base.specs.declared.answer.Answer.{Answer}
-use Rattle.ep_base.specs.declared.answer.Answer.TheVariants.{Bytes, Done, Events, Failed, Named, Num, Refused, Time}
+use Rattle.ep_base.specs.declared.answer.Answer.TheVariants.{Bytes, Connecting, Done, Events, Failed, Named, Num, Refused, Time}
 use Rattle.ep_base.specs.declared.errno.Errno.{Errno}
 use Rattle.ep_base.specs.declared.errno.Errno.TheVariants.{Ebadf}
 use Rattle.ep_base.specs.declared.object.End.{End}
@@ -31,6 +31,7 @@ given_fits (Num k) asked waiting room few h i = tt
 given_fits (Time value interval) asked waiting room few h i = tt
 given_fits (Failed e) asked waiting room few h i = tt
 given_fits (Named name) asked waiting room few h i = tt
+given_fits Connecting asked waiting room few h i = tt
 given_fits (Refused e) asked waiting room few h i = tt
 given_fits Done asked waiting room few h i = tt
 given_fits answer asked waiting room few h i = few

@@ -1,37 +1,39 @@
 -- A call on an object over the parts.
-use Rattle.std.proofs.Common.{◌≡◌, ◌∙◌, ◌==◌, ℕ, true, List, [], IsSome, None, Option, Some, false, ap, is_none, refl, slice_index_or, subst, sym, unwrap_or}
+use Rattle.std.proofs.Common.{◌≡◌, ◌∙◌, ◌==◌, ◌∷◌, ℕ, Bool, true, List, MatchOption, [], IsSome, None, Option, Some, false, ap, is_none, refl, slice_index_or, subst, sym, unwrap_or}
 use Rattle.std.proofs.lemmas.Bool.{false≢true}
 use Rattle.ep_base.specs.declared.call.Call.{Call}
+use Rattle.ep_base.specs.declared.answer.Answer.TheVariants.{Refused}
 use Rattle.ep_base.specs.declared.errno.Errno.{Errno}
+use Rattle.ep_base.specs.declared.errno.Errno.TheVariants.{Ebadf}
 use Rattle.ep_base.specs.declared.ids.DescId.{DescId}
 use Rattle.ep_base.specs.declared.ids.Fd.{Fd}
 use Rattle.ep_base.specs.declared.object.End.{End}
 use Rattle.ep_law.proofs.EndLemmas.{set_object}
 use Rattle.ep_machine.specs.Bits.{nothing}
 use Rattle.ep_machine.specs.Effect.{Effect, attempt, first, unless}
-use Rattle.ep_machine.specs.Files.{Files, Place, object_at, object_number, object_of, place_of, side_of, under}
-use Rattle.ep_machine.specs.Objects.{Object, ObjectCall, instance, is_instance, object_call, object_effect, object_refusals, reads}
+use Rattle.ep_machine.specs.Files.{Files, Place, named_by, names_nothing, object_at, object_number, object_of, object_under, place_of, side_of, side_under, under}
+use Rattle.ep_machine.specs.Objects.{Object, ObjectCall, instance, asks, is_instance, object_effect, object_refusals, reads}
 use Rattle.ep_view.specs.AtRest.{kind_of}
 use Rattle.ep_machine.specs.Refusal.{call_refusals}
 use Rattle.ep_machine.specs.Step.{call_change}
-use Rattle.ep_machine.specs.Tables.{affected}
+use Rattle.ep_machine.specs.Tables.{affected, affected_raises}
 use Rattle.ep_view.proofs.FilesLemmas.{extends_with_object}
 use Rattle.ep_view.proofs.AtRestLemmas.{kind_at, kind_there}
 use Rattle.ep_calls.specs.Does.{DoesCall}
-use Rattle.ep_calls.specs.ObjectCall.{AppliesAt, CallsObject}
+use Rattle.ep_calls.specs.ObjectCall.{AppliesAt, CallsObject, object_call_of, object_effect_of}
 use Rattle.ep_calls.specs.Parts.{AreCoherent, Parts}
 use Rattle.ep_calls.specs.declared.outcome.Outcome.{Outcome}
 use Rattle.ep_calls.specs.Moves.{Goes}
-use Rattle.ep_calls.specs.Raising.{IsRaising, Raises, RaisesByCall}
+use Rattle.ep_calls.specs.Raising.{AsRaised, IsRaising, Raises, RaisesByCall, raised_bits}
 use Rattle.ep_calls.specs.Stands.{KeepsKinds}
 use Rattle.ep_calls.specs.declared.raising.Raising.{Raising}
-use Rattle.ep_calls.specs.declared.raising.Raising.TheVariants.{Object as AtObject}
+use Rattle.ep_calls.specs.declared.raising.Raising.TheVariants.{Nowhere, Object as AtObject}
 use Rattle.ep_calls.proofs.ObjectCallLemmas.{calls_object}
 use Rattle.ep_calls.proofs.ObjectRaiseLemmas.{object_raises, raises_object}
 use Rattle.ep_calls.proofs.PartsLemmas.{coherent_kept}
 use Rattle.ep_calls.proofs.FilesCallLemmas.{object_called, object_keys, object_limits, on_object_is}
 use Rattle.ep_view.proofs.KindLemmas.{effect_kind, instance_kind}
-use Rattle.ep_table.specs.Value.{Seen, Sound, content_of, effect_at, effect_under, files_after, holds_of, number_of, number_under, unwrapped}
+use Rattle.ep_table.specs.Value.{Refuses, Seen, Sound, Succeeds, content_of, effect_at, effect_under, files_after, holds_of, number_of, number_under, unwrapped}
 use Rattle.ep_calls.proofs.KeyLemmas.{object_there, under_key}
 
 some_not_none : {X : Type 0} (o : Option X) → IsSome o → is_none o ≡ false
@@ -91,10 +93,10 @@ module _ (f : Files) (d now : ℕ) (asked : ObjectCall) where
 -- so the parts do what the machine does
 pub object_does : (p : Parts) (new : Seen) (pid : ℕ) (fd : Fd) (asked : ObjectCall) (outcome : Outcome) → AreCoherent p → CallsObject pid fd p.clock asked outcome.answer p.tables new
     → RaisesByCall p.tables new pid fd.0 p.clock asked outcome.raising → outcome.picked ≡ [] → IsRaising outcome.raising new
-    → (n caller : ℕ) (call : Call) → object_call call ≡ Some (fd, asked) → DoesCall n caller pid call outcome p (record p { tables = new })
+    → (n caller : ℕ) (call : Call) → asks p.tables.files.objects call ≡ Some (fd, asked) → DoesCall n caller pid call outcome p (record p { tables = new })
 object_does p new pid fd asked outcome h calls raises picked is n caller call on =
     let limits = p.tables.limits in
-    let here = on_object_is call fd asked on in
+    let here = on_object_is p.tables.files.objects call fd asked on in
     record {
       moves = λ s at sound quiet legal stands.
           let P : List ℕ → Type 0 = λ ks. Goes (call_refusals limits s pid call) (call_change limits s caller pid call ks) s outcome.answer ks (record p { tables = new }) in
@@ -106,6 +108,23 @@ object_does p new pid fd asked outcome h calls raises picked is n caller call on
       limits = object_limits p.tables new pid fd p.clock asked outcome.answer calls;
       keys = object_keys p.tables new pid fd p.clock asked outcome.answer calls;
     }
+
+-- a descriptor that names nothing is refused
+pub unnamed_does : (p : Parts) (pid : ℕ) (fd : Fd) (asked : ObjectCall) (outcome : Outcome) → AreCoherent p → under p.tables.files pid fd.0 ≡ None
+    → outcome.answer ≡ Refused Ebadf → outcome.picked ≡ [] → outcome.raising ≡ Nowhere
+    → (n caller : ℕ) (call : Call) → asks p.tables.files.objects call ≡ Some (fd, asked) → DoesCall n caller pid call outcome p p
+unnamed_does p pid fd asked outcome h none answer picked raising =
+    let v = p.tables in
+    let c = object_call_of v.files pid fd.0 p.clock asked in
+    let tests = object_refusals (object_under v.files pid fd.0) (side_under v.files pid fd.0) p.clock asked in
+    let nothing_named : names_nothing v.files pid fd.0 ≡ true = ap is_none none in
+    let refuses : Refuses Ebadf outcome.answer v v = record { answers = answer; tables = refl } in
+    let calls : CallsObject pid fd p.clock asked outcome.answer v v =
+    subst (λ (b : Bool). MatchOption (first ((b, Ebadf) ∷ tests)) (Succeeds c outcome.answer v v) (λ e. Refuses e outcome.answer v v)) (sym nothing_named) refuses in
+    let raises : RaisesByCall v v pid fd.0 p.clock asked outcome.raising =
+    subst (λ (b : Bool). MatchOption (first ((b, Ebadf) ∷ tests)) (AsRaised outcome.raising v p.clock (affected_raises v.files (named_by v.files pid fd.0) (object_effect_of v.files pid fd.0 p.clock asked))) (λ e. AsRaised outcome.raising v p.clock [])) (sym nothing_named)
+    (λ d. sym (ap (λ (r : Raising). raised_bits r v p.clock d) raising)) in
+    object_does p v pid fd asked outcome h calls raises picked (subst (λ (r : Raising). IsRaising r v) (sym raising) tt)
 
 -- what a call on the object of a description that was found comes to
 module _ (p : Parts) (new : Seen) (pid : ℕ) (fd : Fd) (desc : DescId) (asked : ObjectCall) (outcome : Outcome) (sound : Sound p.tables) (found : number_under p.tables desc ≡ under p.tables.files pid fd.0) (live : IsSome (number_under p.tables desc))
@@ -126,7 +145,7 @@ module _ (p : Parts) (new : Seen) (pid : ℕ) (fd : Fd) (desc : DescId) (asked :
       subst (λ (r : Raising). IsRaising r new) (sym applies.raising)
       (subst (IsRaising (AtObject desc raised)) (sym applies.files) (live, λ h. instance_raises v.files d p.clock asked h))
 
-  pub applied_does : AreCoherent p → (n caller : ℕ) (call : Call) → object_call call ≡ Some (fd, asked) → DoesCall n caller pid call outcome p (record p { tables = new })
+  pub applied_does : AreCoherent p → (n caller : ℕ) (call : Call) → asks p.tables.files.objects call ≡ Some (fd, asked) → DoesCall n caller pid call outcome p (record p { tables = new })
   applied_does h = object_does p new pid fd asked outcome h applied_calls applied_raises applies.picked applied_raising
 
 -- and the parts stay coherent

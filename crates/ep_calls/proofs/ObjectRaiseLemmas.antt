@@ -90,9 +90,9 @@ Told new now p fd asked raising at f =
     (AsRaised raising new now (affected_raises f (named_by f p fd.0) (object_effect (object_under f p fd.0) (side_under f p fd.0) at asked))) (λ e. AsRaised raising new now [])
 
 pub object_raises : (v new : Seen) (p : ℕ) (fd : Fd) (now : ℕ) (asked : ObjectCall) (call : Call) (raising : Raising) → RaisesByCall v new p fd.0 now asked raising
-    → {ws : List Waiter} (limits : Limits) (r : Registrations) (s : State) (caller : ℕ) → Stands v r ws now s → IsOnObject fd asked call → Raises (call_refusals limits s p call) (call_change limits s caller p call []) raising new now
+    → {ws : List Waiter} (limits : Limits) (r : Registrations) (s : State) (caller : ℕ) → Stands v r ws now s → IsOnObject v.files.objects fd asked call → Raises (call_refusals limits s p call) (call_change limits s caller p call []) raising new now
 object_raises v new p fd now asked call raising h limits r s caller stands is =
-    let both = is limits s caller p in
+    let both = is limits s caller p (ap (λ (f : Files). f.objects) stands.files) in
     let P : List (Bool × Errno) → Option Change → Type 0 = λ tests o. Raises tests o raising new now in
     subst (λ (tests : List (Bool × Errno)). P tests (call_change limits s caller p call [])) (sym both.0)
     (subst (λ (o : Option Change). P (on_object s p fd.0 asked) o) (sym both.1) (by_state (first (on_object s p fd.0 asked)) moved)) where

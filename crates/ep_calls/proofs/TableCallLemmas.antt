@@ -22,6 +22,7 @@ use Rattle.ep_calls.specs.TableCall.{IsTableCall, called}
 use Rattle.ep_calls.specs.declared.outcome.Outcome.{Outcome}
 use Rattle.ep_calls.specs.declared.raising.Raising.{Raising}
 use Rattle.ep_calls.specs.declared.raising.Raising.TheVariants.{Nowhere}
+use Rattle.ep_calls.proofs.AskedLemmas.{asks_none}
 use Rattle.ep_calls.proofs.FilesCallLemmas.{does_goes, does_keys, does_limits}
 use Rattle.ep_calls.proofs.RegistrationLemmas.{process_waits}
 use Rattle.ep_calls.proofs.NothingRaisedLemmas.{nowhere_raises, off_object}
@@ -36,7 +37,9 @@ IsMade limits s caller p call =
 is_made : (limits : Limits) (s : State) (caller p : ℕ) (call : Call) → IsTableCall call → IsMade limits s caller p call
 is_made limits s caller p (EpollCtl epfd op fd mask tag) h = absurd h
 is_made limits s caller p (EpollWait epfd most timeout) h = absurd h
-is_made limits s caller p call h = (ap (refusals_on limits s p call) h, ap (λ (on : Option (Fd × ObjectCall)). Some (change_on limits s p call on)) h)
+is_made limits s caller p call h =
+    let none = asks_none s.files.objects call h in
+    (ap (refusals_on limits s p call) none, ap (λ (on : Option (Fd × ObjectCall)). Some (change_on limits s p call on)) none)
 
 -- so the parts do what the machine does
 pub table_does : (p : Parts) (new : Seen) (pid : ℕ) (call : Call) (outcome : Outcome) → AreCoherent p → IsTableCall call → Does (called p.tables p.parked pid call) outcome.answer p.tables new → outcome.picked ≡ [] → outcome.raising ≡ Nowhere

@@ -7,7 +7,7 @@ use Rattle.ep_base.specs.declared.ids.Fd.{Fd}
 use Rattle.ep_calls.specs.ObjectCall.{CallsObject}
 use Rattle.ep_calls.specs.Parts.{Parts}
 use Rattle.ep_calls.specs.TableCall.{called}
-use Rattle.ep_machine.specs.Objects.{ObjectCall, object_call}
+use Rattle.ep_machine.specs.Objects.{ObjectCall, asks}
 use Rattle.ep_table.specs.Value.{Does}
 
 -- neither a call on a registration nor a wait
@@ -22,4 +22,4 @@ CallsAsked p call None answer old new = Does (called old.tables old.parked p cal
 CallsAsked p call (Some on) answer old new = CallsObject p on.0 old.clock on.1 answer old.tables new.tables
 
 abbrev pub CallsFiles : ℕ → Call → Answer → Parts → Parts → Type 0
-CallsFiles p call answer old new = CallsAsked p call (object_call call) answer old new
+CallsFiles p call answer old new = CallsAsked p call (asks old.tables.files.objects call) answer old new

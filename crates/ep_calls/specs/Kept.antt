@@ -20,7 +20,7 @@ KeepsAsked (Some on) kept outcome = IsKept kept outcome
 
 abbrev pub KeepsCall : Call → Bool → Outcome → Type 0
 KeepsCall (EpollWait epfd most timeout) kept outcome = IsKept kept outcome
-KeepsCall call kept outcome = KeepsAsked (object_call call) kept outcome
+KeepsCall call kept outcome = KeepsAsked (object_call None call) kept outcome
 
 abbrev pub KeepsEvent : Event → Bool → Outcome → Type 0
 KeepsEvent (CallOf pid call) kept outcome = KeepsCall call kept outcome

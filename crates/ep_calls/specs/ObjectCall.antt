@@ -5,7 +5,7 @@ use Rattle.std.specs.declared.alloc.Global.{Global}
 use Rattle.smallvec.specs.SmallVec.{HasRoomFor}
 use Rattle.smallvec.specs.declared.SmallVec.{SmallVec}
 use Rattle.ep_base.specs.declared.answer.Answer.{Answer}
-use Rattle.ep_base.specs.declared.answer.Answer.TheVariants.{Bytes, Done, Failed, Named, Num, Refused, Time}
+use Rattle.ep_base.specs.declared.answer.Answer.TheVariants.{Bytes, Connecting, Done, Failed, Named, Num, Refused, Time}
 use Rattle.ep_machine.specs.Effect.{Effect}
 use Rattle.ep_base.specs.declared.ids.DescId.{DescId}
 use Rattle.ep_machine.specs.Files.{Files, named_by, names_nothing, object_under, side_of, side_under}
@@ -43,6 +43,7 @@ FitsRoom (Num k) room = Unit {0}
 FitsRoom (Time value interval) room = Unit {0}
 FitsRoom (Failed e) room = Unit {0}
 FitsRoom (Named name) room = Unit {0}
+FitsRoom Connecting room = Unit {0}
 FitsRoom (Refused e) room = Unit {0}
 FitsRoom Done room = Unit {0}
 FitsRoom answer room = ⊥

@@ -14,7 +14,7 @@ use Rattle.ep_table.specs.Value.{Seen}
 abbrev pub IsTableCall : Call → Type 0
 IsTableCall (EpollCtl epfd op fd mask tag) = ⊥
 IsTableCall (EpollWait epfd most timeout) = ⊥
-IsTableCall call = object_call call ≡ None
+IsTableCall call = object_call None call ≡ None
 
 -- a call that makes a timer
 abbrev pub MakesTimer : Call → Type 0

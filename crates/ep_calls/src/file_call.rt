@@ -1,6 +1,7 @@
 //! Calls on files: each is taken apart here, into what it asks of an object, or else is one on the tables alone.
 ghost use Rattle.std.specs.Prelude.{ℕ, ◌≡◌, [], IfOk, IsOk, OnErr, false, is_some, true};
 ghost use Rattle.ep_machine.specs.Files.{table_of};
+ghost use Rattle.ep_machine.specs.Objects.{asks, found_for, is_taken};
 ghost use Rattle.ep_calls.specs.Clock.{ClockStays};
 ghost use Rattle.ep_calls.specs.Does.{DoesCall};
 ghost use Rattle.ep_calls.specs.FileCall.{CallsFiles, IsFileCall};
@@ -12,9 +13,41 @@ ghost use Rattle.ep_calls.specs.TableCall.{MakesTimer};
 use crate::object_call::is_long;
 use crate::raising::Raising;
 use crate::{Outcome, Parts};
-use ep_base::{Call, Errno, Pid};
+use ep_base::{Call, Errno, Fd, Name, Pid};
 use ep_object::ObjectCall;
+use ep_table::Tables;
 use std::alloc::AllocError;
+
+/// The name that is free for a bind or a connect.
+#[cold]
+#[inline(never)]
+fn look_up(tables: &Tables, call: &Call) -> Option<Name>
+    ensures { result ≡ found_for (is_taken tables.now.files.objects) call.now }
+{
+    tables.found_for(call)
+}
+
+/// The name that is free for a call that gives one. Only a bind or a connect looks for it, which would cost every read
+/// and write.
+#[inline(always)]
+fn name_for(tables: &Tables, call: &Call) -> Option<Name>
+    ensures { result ≡ found_for (is_taken tables.now.files.objects) call.now }
+{
+    match call {
+        Call::Bind { .. } | Call::Connect { .. } => look_up(tables, call),
+        _ => None,
+    }
+}
+
+/// The descriptor on whose object a call is, and what it asks of that object, with the name that is free for it.
+/// `None` of a call that is on none.
+#[inline(always)]
+fn taken_apart<'a>(tables: &Tables, call: &'a Call) -> Option<(Fd, ObjectCall<'a>)>
+    ensures { result ≡ asks tables.now.files.objects call.now }
+{
+    let found = name_for(tables, call);
+    ObjectCall::of(call, found)
+}
 
 impl Parts {
     /// A call on files: on the object that its descriptor names, or on the tables alone. `kept`: a second record of it
@@ -47,7 +80,7 @@ impl Parts {
         ensures last { OnErr result (NothingRefusesCall self.old pid.0 call.now) }
         ensures err { OnErr result (self.new ≡ self.old) }
     {
-        let Some((fd, asked)) = ObjectCall::of(call) else {
+        let Some((fd, asked)) = taken_apart(&self.tables, call) else {
             return self.table_call(pid, call, has_room);
         };
         let Some(desc) = self.tables.lookup(pid, fd) else {

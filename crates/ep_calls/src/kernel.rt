@@ -44,7 +44,8 @@ pub trait Kernel {
     /// of epoll_ctl, write, shutdown, timerfd_settime, timerfd_gettime, what asks for a socket's error or name, and a
     /// read or a peek of at most 16 bytes, or if no more wait. Once `reserve(n)` has answered Ok, there is room until
     /// there are n further records. What else these events need was taken by what made, added or parked. All others
-    /// may be answered ENOMEM: creations, dup, dup2, fork, ADD, longer reads and peeks, waits and resumptions.
+    /// may be answered ENOMEM: creations, dup, dup2, fork, ADD, bind, connect, longer reads and peeks, waits and
+    /// resumptions.
     ///
     /// ENOMEM comes last: if there is room for the record, no refusal of the machine holds.
     fn step(&mut self, caller: CallerId, event: Event) -> Answer

@@ -4,6 +4,7 @@ ghost use Rattle.ep_object.specs.Memory.{asked_of};
 ghost use Rattle.ep_calls.specs.Acts.{is_no_memory};
 ghost use Rattle.ep_calls.specs.Kept.{IsKept};
 ghost use Rattle.ep_calls.specs.ObjectCall.{AppliesAt, FitsRoom, waiting_at};
+ghost use Rattle.ep_table.specs.Taking.{FindsFree};
 ghost use Rattle.ep_table.specs.Value.{number_under};
 ghost use Rattle.smallvec.specs.SmallVec.{HasRoomFor};
 
@@ -67,6 +68,7 @@ fn answer_copy(answer: &Answer, mut room: SmallVec<u8, 16>) -> Answer
         },
         Answer::Failed(errno) => Answer::Failed(*errno),
         Answer::Named(name) => Answer::Named(*name),
+        Answer::Connecting => Answer::Connecting,
         Answer::Refused(errno) => Answer::Refused(*errno),
         _ => Answer::Done,
     }
@@ -173,6 +175,7 @@ impl Parts {
         kept: bool,
     ) -> Result<Outcome, AllocError>
         requires live { IsSome (number_under self.old.tables desc) }
+        requires free { FindsFree self.old.tables.files.objects asked.now }
         ensures ok { IfOk result
             (λ outcome. AppliesAt desc self.old.clock asked.now outcome self.old.tables
             self.new.tables) }

@@ -116,17 +116,16 @@ fn answer_of(
         ),
         Call::Plain { cloexec } => tables.create(pid, cloexec, Object::plain(alloc)),
         Call::EpollCreate { cloexec } => tables.create(pid, cloexec, Object::instance()),
+        Call::Socket { family, cloexec } => {
+            tables.create(pid, cloexec, Object::socket(alloc, family))
+        }
         Call::Dup { fd } => tables.dup(pid, fd),
         Call::Dup2 { fd, to } => tables.dup2(pid, fd, to),
         Call::Close { fd } => Ok(tables.close(pid, fd)),
         Call::Fork => tables.fork(pid),
         Call::Exec => Ok(exec(tables, waiters, pid)),
         Call::Exit => Ok(exit(tables, waiters, pid)),
-        Call::Socket { .. }
-        | Call::Bind { .. }
-        | Call::Listen { .. }
-        | Call::Connect { .. }
-        | Call::Accept { .. } => Ok(Answer::Refused(Errno::Einval)),
+        Call::Listen { .. } | Call::Accept { .. } => Ok(Answer::Refused(Errno::Einval)),
         _ => unreachable!(),
     }
 }

@@ -21,7 +21,7 @@ use Rattle.ep_calls.specs.Parts.{Parts}
 use Rattle.ep_calls.specs.Stands.{IsLinked, KeepsKeys, number_at}
 use Rattle.ep_interest.specs.declared.entry.Entry.{Entry}
 use Rattle.ep_machine.specs.Files.{Files, named_by, names_nothing, under}
-use Rattle.ep_machine.specs.Objects.{ObjectCall, object_call}
+use Rattle.ep_machine.specs.Objects.{ObjectCall, asks}
 use Rattle.ep_machine.specs.Refusal.{refusals, refusals_on}
 use Rattle.ep_machine.specs.State.{Change, State, Watch}
 use Rattle.ep_machine.specs.Step.{change}
@@ -132,5 +132,9 @@ module _ (old mid : Seen) (keys : KeepsKeys old mid) (was : SoundTables old) (so
     pub is_found : (event : Event) → first (refusals limits b caller event) ≡ None → (called : Option DescId) → IsCalled old event called → Found called (is_called from event)
     is_found (CallOf p (EpollCtl epfd op fd mask tag)) allowed called is = λ a d lives number on. absurd (false≢true on)
     is_found (CallOf p (EpollWait epfd max timeout)) allowed called is = λ a d lives number on. absurd (false≢true on)
-    is_found (CallOf p call) allowed called is = asked_found p.0 call (object_call call) (none_holds (refusals limits b caller (CallOf p call)) allowed).1.1 called is
+    is_found (CallOf p call) allowed called is =
+        let none = (none_holds (refusals limits b caller (CallOf p call)) allowed).1.1 in
+        let tests = subst (λ (f : Files). AllByRecursion (λ t. t.0 ≡ false) (refusals_on limits b p.0 call (asks f.objects call))) same none in
+        subst (λ (f : Files). Found called (is_object_of from p.0 (asks f.objects call))) (sym same_from)
+        (asked_found p.0 call (asks old.files.objects call) tests called is)
     is_found event allowed called is = λ a d lives number on. absurd (false≢true on)

@@ -1,12 +1,16 @@
 -- Of which registrations the machine may report.
-use Rattle.std.proofs.Common.{◌≡◌, ◌==◌, ◌&&◌, ◌||◌, ◌∙◌, ℕ, suc, zero, Bool, true, false, List, [], ◌∷◌, None, Option, Some, ap, arith, cond, filter, find, if◌then◌else◌, inl, inr, is_none, is_some, length, min, not, refl, sym}
+use Rattle.std.proofs.Common.{◌≡◌, ◌==◌, ◌&&◌, ◌||◌, ◌∙◌, ℕ, ℤ, suc, zero, Bool, true, false, List, [], ◌∷◌, None, Option, Some, ap, arith, cond, filter, find, if◌then◌else◌, inl, inr, is_none, is_some, length, min, not, refl, sym}
 use Rattle.std.specs.List.{list_all, list_any}
 use Rattle.std.specs.Option.{option_map}
 use Rattle.std.proofs.lemmas.Bool.{cases_Bool, false≢true}
 use Rattle.std.proofs.lemmas.Bool.Decides.{nat_tests}
 use Rattle.ep_base.specs.Limits.{Limits}
 use Rattle.ep_base.specs.declared.answer.Answer.TheVariants.{Still}
+use Rattle.ep_base.specs.declared.call.Call.{Call}
+use Rattle.ep_base.specs.declared.call.Call.TheVariants.{EpollCtl, EpollWait}
 use Rattle.ep_base.specs.declared.call.Event.{Event}
+use Rattle.ep_base.specs.declared.ids.Fd.{Fd}
+use Rattle.ep_machine.specs.Objects.{asks}
 use Rattle.ep_base.specs.declared.call.Event.TheVariants.{Call as CallOf, Resume}
 use Rattle.ep_base.specs.declared.errno.Errno.{Errno}
 use Rattle.ep_base.specs.declared.errno.Errno.TheVariants.{Ebusy, Esrch}
@@ -16,12 +20,12 @@ use Rattle.ep_machine.specs.Effect.{first}
 use Rattle.ep_machine.specs.Files.{Files, named_by, table_of}
 use Rattle.ep_machine.specs.Lists.{are_distinct, is_empty}
 use Rattle.ep_machine.specs.Readiness.{is_ready, is_reportable, reportables}
-use Rattle.ep_machine.specs.Refusal.{refusals, wait_refusals}
+use Rattle.ep_machine.specs.Refusal.{call_refusals, ctl_refusals, refusals, wait_refusals}
 use Rattle.ep_machine.specs.Report.{is_fair_to, is_pick, plainly, report, watches_at}
 use Rattle.ep_machine.specs.State.{Change, State, Waiter, Watch}
-use Rattle.ep_machine.specs.Step.{change, refused_or, settled}
+use Rattle.ep_machine.specs.Step.{call_change, change, change_on, refused_or, settled}
 use Rattle.ep_machine.specs.Waits.{is_parked, leave_after, resume, resume_by, resume_empty, wait, wait_for, waiter_of}
-use Rattle.ep_machine.specs.Watches.{is_legal, links, number_in}
+use Rattle.ep_machine.specs.Watches.{ctl, is_legal, links, number_in}
 use Rattle.ep_park.specs.Waiters.{is_caller, parked}
 use Rattle.ep_park.specs.declared.waiter.Waiter.{Waiter as ParkedWaiter}
 use Rattle.ep_view.proofs.ResumeLemmas.{parked_found, resume_allowed, resume_refused}
@@ -44,6 +48,15 @@ plain_goes None s [] c = refl
 plain_goes None s (k ∷ ks) c = refl
 plain_goes (Some e) s [] c = refl
 plain_goes (Some e) s (k ∷ ks) c = refl
+
+-- as any call but a wait
+pub no_wait : (limits : Limits) (s : State) (caller pid : ℕ) (picks : List ℕ) (call : Call) → ((epfd : Fd) (most timeout : ℤ) → call ≡ EpollWait epfd most timeout → ⊥)
+    → is_some (refused_or (first (call_refusals limits s pid call)) s picks (call_change limits s caller pid call picks)) ≡ is_empty picks
+no_wait limits s caller pid picks (EpollWait epfd most timeout) n = absurd (n epfd most timeout refl)
+no_wait limits s caller pid picks (EpollCtl epfd op fd mask tag) n =
+    plain_goes (first (ctl_refusals limits s pid epfd.0 op fd.0 mask.0)) s picks (ctl s pid epfd.0 op fd.0 mask.0 tag)
+no_wait limits s caller pid picks call n =
+    plain_goes (first (call_refusals limits s pid call)) s picks (change_on limits s pid call (asks s.files.objects call))
 
 refused_plain : (e : Errno) (s : State) (ks : List ℕ) (c : Option Change) → is_some (refused_or (Some e) s ks c) ≡ is_empty ks
 refused_plain e s [] c = refl

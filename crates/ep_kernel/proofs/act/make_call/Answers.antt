@@ -12,7 +12,7 @@ use Rattle.ep_kernel.proofs.EventLemmas.{leaves_same, ok_both, stays_by}
 use Rattle.ep_kernel.proofs.PickLemmas.{call_does_if}
 use Rattle.ep_kernel.proofs.ReportsFirstLemmas.{files_wait, other_reports}
 use Rattle.ep_kernel.proofs.WaitTurnsLemmas.{files_altered, same_turns}
-use Rattle.ep_alarms.proofs.ChangesLemmas.{as_files}
+use Rattle.ep_alarms.proofs.ChangesLemmas.{as_files, is_file_call}
 use Rattle.ep_alarms.specs.Changes.{CallsTables}
 use Rattle.ep_kernel.proofs.act.make_call.Goals as goal
 use Rattle.ep_kernel.specs.Event.{LeavesBeside, TurnsInOrder}
@@ -28,7 +28,7 @@ returns-in_default c =
     let event = CallOf c.args.pid call in
     let step = c.args.request.step in
     let caller = c.args.request.caller.0 in
-    let on_files : IsFileCall call = search rules in
+    let on_files : IsFileCall call = is_file_call call c.in_default.not-EpollCtl c.in_default.not-EpollWait in
     let fair : State → Type 0 = λ s. AreFair s p b.lists in
     let did = c.file_call.ensures in
     record {

@@ -2,7 +2,7 @@ use Rattle.std.proofs.Common.{◌≡◌, ◌∙◌, ℤ, OnErr, ap, refl, rules,
 use Rattle.std.proofs.lemmas.Int.{to_z-of_z}
 use Rattle.std.proofs.lemmas.Result.{IfOk-weaker, on_err_weaker}
 use mir.Val.{SFits}
-use Rattle.ep_alarms.proofs.ChangesLemmas.{as_files}
+use Rattle.ep_alarms.proofs.ChangesLemmas.{as_files, is_file_call}
 use Rattle.ep_alarms.specs.Changes.{CallsTables}
 use Rattle.ep_base.specs.declared.call.Call.{Call}
 use Rattle.ep_base.specs.declared.call.Call.TheVariants.{EpollCtl}
@@ -24,7 +24,7 @@ returns-in_default c =
     let p = c.args.parts.now in
     let q = c.file_call.new.self in
     let call = c.args.call.now in
-    let on_files : IsFileCall call = search rules in
+    let on_files : IsFileCall call = is_file_call call c.in_default.not-EpollCtl c.in_default.not-EpollWait in
     record {
       ok = IfOk-weaker c.file_call.result _ _ (λ outcome h. h c.args.request.step c.args.request.caller.0) c.file_call.ensures.ok;
       kept = c.file_call.ensures.kept;

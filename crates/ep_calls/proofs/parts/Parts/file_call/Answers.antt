@@ -1,4 +1,5 @@
-use Rattle.std.proofs.Common.{◌≡◌, ◌∙◌, IsSome, Option, ap, false, subst, sym, ℕ}
+use Rattle.std.proofs.Common.{◌≡◌, ◌∙◌, ◌≤◌, IsSome, None, Option, Some, ap, arith, false, min, subst, sym, ℕ}
+use Rattle.std.proofs.lemmas.Bool.{false≢true}
 use Rattle.std.proofs.lemmas.Result.{IfOk-weaker}
 use Rattle.ep_calls.specs.Reply.{IsSettled}
 use Rattle.ep_base.specs.declared.answer.Answer.{Answer}
@@ -7,16 +8,24 @@ use Rattle.ep_calls.specs.Acts.{is_no_memory}
 use Rattle.ep_base.specs.declared.ids.Fd.{Fd}
 use Rattle.ep_base.specs.declared.object.Raised.{Raised}
 use Rattle.ep_calls.specs.Does.{DoesCall}
-use Rattle.ep_calls.specs.FileCall.{CallsAsked}
-use Rattle.ep_calls.specs.ObjectCall.{AppliesAt, CallsObject}
+use Rattle.ep_calls.specs.FileCall.{CallsAsked, CallsFiles}
+use Rattle.ep_calls.specs.ObjectCall.{AppliesAt, waiting_at}
 use Rattle.ep_calls.specs.Parts.{AreCoherent, Parts}
 use Rattle.ep_calls.specs.declared.outcome.Outcome.{Outcome}
 use Rattle.ep_calls.specs.declared.raising.Raising.TheVariants.{Object as AtObject}
 use Rattle.ep_calls.proofs.ObjectCallLemmas.{fits_settled}
 use Rattle.ep_object.proofs.RealLemmas.{answer_real}
-use Rattle.ep_calls.proofs.ObjectLemmas.{applied_calls, applied_coherent, applied_does}
+use Rattle.ep_calls.proofs.ObjectLemmas.{applied_calls, applied_coherent, applied_does, unnamed_does}
+use Rattle.ep_calls.proofs.AskedLemmas.{finds_free}
+use Rattle.ep_calls.proofs.FileCallLemmas.{is_table_call, makes_no_timer}
+use Rattle.ep_calls.proofs.KeptLemmas.{any_call, table_call_kept}
+use Rattle.ep_calls.proofs.LastLemmas.{long_last, object_last, on_err}
+use Rattle.ep_calls.proofs.SparedLemmas.{takes_none, waits_under}
+use Rattle.ep_calls.specs.Last.{NothingRefusesCall}
+use Rattle.ep_calls.specs.Spared.{TakesNoMemory}
+use Rattle.ep_object.specs.Memory.{asked_of}
 use Rattle.ep_machine.specs.Files.{side_of, under}
-use Rattle.ep_machine.specs.Objects.{ObjectCall, object_call}
+use Rattle.ep_machine.specs.Objects.{ObjectCall, asks}
 use Rattle.ep_table.specs.Value.{Sound, content_of, number_of, number_under}
 use Rattle.ep_calls.proofs.parts.Parts.file_call.Goals as goal
 
@@ -57,8 +66,8 @@ returns-clause-tables c =
     let k = c.self.inside in
     let p : Parts = record { tables = k.tables; interest = k.interest; graph = k.graph; parked = k.waiters; clock = k.clock } in
     let found = c.in-Some-lookup.ensures in
-    subst (λ (on : Option (Fd × ObjectCall)). CallsAsked c.args.pid.0 c.args.call.now on c.settled.result.answer c.args.self.now (record p { tables = c.apply.new.self })) c.in-Some.ensures
-    (subst (λ (q : Parts). CallsObject c.args.pid.0 c.in-Some.fd q.clock c.in-Some.asked c.settled.result.answer q.tables c.apply.new.self) c.self.view_is
+    subst (λ (q : Parts). CallsFiles c.args.pid.0 c.args.call.now c.settled.result.answer q (record p { tables = c.apply.new.self })) c.self.view_is
+    (subst (λ (on : Option (Fd × ObjectCall)). CallsAsked c.args.pid.0 c.args.call.now on c.settled.result.answer p (record p { tables = c.apply.new.self })) c.in-Some.ensures
     (applied_calls p c.apply.new.self c.args.pid.0 c.in-Some.fd c.in-Some-lookup.desc c.in-Some.asked c.settled.result c.known.ensures found.number found.live (applies c)))
 
 pub returns-clause-ok : goal.returns-clause-ok
@@ -68,6 +77,35 @@ returns-clause-ok c =
     let found = c.in-Some-lookup.ensures in
     rw (← c.self.view_is)
     (λ n caller. applied_does p c.apply.new.self c.args.pid.0 c.in-Some.fd c.in-Some-lookup.desc c.in-Some.asked c.settled.result c.known.ensures found.number found.live (applies c) c.self.invariant n caller c.args.call.now (sym c.in-Some.ensures))
+
+-- a call on no object
+module _ (c : goal.After-table_call) where
+  on_none : asks c.args.self.now.tables.files.objects c.args.call.now ≡ None
+  on_none = subst (λ (q : Parts). asks q.tables.files.objects c.args.call.now ≡ None) c.self.view_is (sym c.in_default.ensures)
+
+pub table_call-requires-clause-call : goal.table_call-requires-clause-call
+table_call-requires-clause-call c = is_table_call c.self.inside.tables.files.objects c.args.call.now c.requires.call (sym c.in_default.ensures)
+
+pub returns-in_default-clause-kept : goal.returns-in_default-clause-kept
+returns-in_default-clause-kept c =
+    let is = is_table_call c.args.self.now.tables.files.objects c.args.call.now c.requires.call (on_none c) in
+    IfOk-weaker c.table_call.result _ _ (λ o h. table_call_kept c.args.call.now c.args.kept o is) c.table_call.ensures.picked
+
+pub returns-in_default-clause-spared : goal.returns-in_default-clause-spared
+returns-in_default-clause-spared c spared =
+    c.table_call.ensures.frees (takes_none c.args.self.now.tables.files c.args.pid.0 c.args.call.now None c.requires.call (on_none c) spared)
+
+-- a descriptor that names nothing
+pub returns-in_default-lookup-clause-ok : goal.returns-in_default-lookup-clause-ok
+returns-in_default-lookup-clause-ok c n caller =
+    let k = c.self.inside in
+    let p : Parts = record { tables = k.tables; interest = k.interest; graph = k.graph; parked = k.waiters; clock = k.clock } in
+    let o = c.refused.ensures in
+    subst (λ (q : Parts). DoesCall n caller c.args.pid.0 c.args.call.now c.refused.result q q) c.self.view_is
+    (unnamed_does p c.args.pid.0 c.in-Some.fd c.in-Some.asked c.refused.result c.self.invariant (sym c.in_default-lookup.ensures.number) o.answer o.picked o.raising n caller c.args.call.now (sym c.in-Some.ensures))
+
+pub returns-in_default-lookup-clause-kept : goal.returns-in_default-lookup-clause-kept
+returns-in_default-lookup-clause-kept c = any_call c.args.call.now c.args.kept c.refused.result (λ kept none. c.refused.ensures.inline)
 
 -- what was found, and the parts as the longer way has them
 module _ (c : goal.After-long_call) where
@@ -95,18 +133,82 @@ module _ (c : goal.After-long_call) where
   abbrev Applies : Outcome → Type 0
   Applies o = AppliesAt desc old.clock c.in-Some.asked o old.tables new.tables
 
-  long_tables : (o : Outcome) → Applies o → CallsAsked c.args.pid.0 c.args.call.now (object_call c.args.call.now) o.answer old new
+  is : asks old.tables.files.objects c.args.call.now ≡ Some (c.in-Some.fd, c.in-Some.asked)
+  is = subst (λ (q : Parts). asks q.tables.files.objects c.args.call.now ≡ Some (c.in-Some.fd, c.in-Some.asked)) c.self.view_is (sym c.in-Some.ensures)
+
+  long_tables : (o : Outcome) → Applies o → CallsFiles c.args.pid.0 c.args.call.now o.answer old new
   long_tables o did =
-      subst (λ (on : Option (Fd × ObjectCall)). CallsAsked c.args.pid.0 c.args.call.now on o.answer old new) c.in-Some.ensures
+      subst (λ (on : Option (Fd × ObjectCall)). CallsAsked c.args.pid.0 c.args.call.now on o.answer old new) (sym is)
       (applied_calls old new.tables c.args.pid.0 c.in-Some.fd desc c.in-Some.asked o sound found live did)
 
   long_does : (o : Outcome) → Applies o → (n caller : ℕ) → DoesCall n caller c.args.pid.0 c.args.call.now o old new
   long_does o did n caller =
       subst (λ (q : Parts). DoesCall n caller c.args.pid.0 c.args.call.now o old q) (sym c.long_call.ensures.parts)
-      (applied_does old new.tables c.args.pid.0 c.in-Some.fd desc c.in-Some.asked o sound found live did coherent n caller c.args.call.now (sym c.in-Some.ensures))
+      (applied_does old new.tables c.args.pid.0 c.in-Some.fd desc c.in-Some.asked o sound found live did coherent n caller c.args.call.now is)
 
 pub returns-then-is_long-clause-tables : goal.returns-then-is_long-clause-tables
 returns-then-is_long-clause-tables c = IfOk-weaker c.long_call.result _ _ (long_tables c) c.long_call.ensures.ok
 
 pub returns-then-is_long-clause-ok : goal.returns-then-is_long-clause-ok
 returns-then-is_long-clause-ok c = IfOk-weaker c.long_call.result _ _ (long_does c) c.long_call.ensures.ok
+
+pub returns-then-is_long-clause-kept : goal.returns-then-is_long-clause-kept
+returns-then-is_long-clause-kept c = IfOk-weaker c.long_call.result _ _ (λ o h. any_call c.args.call.now c.args.kept o h) c.long_call.ensures.kept
+
+pub returns-then-is_long-clause-room : goal.returns-then-is_long-clause-room
+returns-then-is_long-clause-room c no_room made = absurd (makes_no_timer c.self.inside.tables.files.objects c.args.call.now (c.in-Some.fd, c.in-Some.asked) (sym c.in-Some.ensures) made)
+
+-- more wait than an answer holds
+module _ (c : goal.After-long_call) where
+  too_long : min (asked_of c.in-Some.asked) (waiting_at c.self.inside.tables (desc c) c.in-Some.asked) ≤ 16 → ⊥
+  too_long few = let long = c.if-is_long.ensures in omega (arith, few, long)
+
+  too_long_now : min (asked_of c.in-Some.asked) (waiting_at (old c).tables (desc c) c.in-Some.asked) ≤ 16 → ⊥
+  too_long_now = subst (λ (q : Parts). min (asked_of c.in-Some.asked) (waiting_at q.tables (desc c) c.in-Some.asked) ≤ 16 → ⊥) c.self.view_is too_long
+
+  long_spared : TakesNoMemory (old c).tables.files c.args.pid.0 c.args.call.now → ⊥
+  long_spared spared =
+      let none = takes_none (old c).tables.files c.args.pid.0 c.args.call.now (Some (c.in-Some.fd, c.in-Some.asked)) c.requires.call (is c) spared in
+      let same = waits_under (old c).tables (desc c) c.args.pid.0 c.in-Some.fd.0 c.in-Some.asked (found c) in
+      too_long_now (subst (λ (w : ℕ). min (asked_of c.in-Some.asked) w ≤ 16) (sym same) none.1)
+
+  long_last_call : NothingRefusesCall (old c) c.args.pid.0 c.args.call.now
+  long_last_call =
+      object_last (old c) c.args.pid.0 c.in-Some.fd (desc c) c.in-Some.asked (found c) (live c)
+      (long_last (old c).tables (desc c) (old c).clock c.in-Some.asked too_long_now) c.args.call.now (is c)
+
+pub returns-then-is_long-clause-spared : goal.returns-then-is_long-clause-spared
+returns-then-is_long-clause-spared c spared = absurd (long_spared c spared)
+
+pub returns-then-is_long-clause-last : goal.returns-then-is_long-clause-last
+returns-then-is_long-clause-last c = on_err c.long_call.result (long_last_call c)
+
+-- what needs memory after all
+pub apply-requires-clause-free : goal.apply-requires-clause-free
+apply-requires-clause-free c = finds_free c.self.inside.tables.files.objects c.args.call.now c.in-Some.fd c.in-Some.asked (sym c.in-Some.ensures)
+
+pub returns-in_err-answer-clause-spared : goal.returns-in_err-answer-clause-spared
+returns-in_err-answer-clause-spared c =
+    let k = c.self.inside in
+    let p : Parts = record { tables = k.tables; interest = k.interest; graph = k.graph; parked = k.waiters; clock = k.clock } in
+    let P : Parts → Type 0 = λ q. TakesNoMemory q.tables.files c.args.pid.0 c.args.call.now → ⊥ in
+    let asked = c.in-Some.asked in
+    let never : P p = λ spared.
+    let none = takes_none k.tables.files c.args.pid.0 c.args.call.now (Some (c.in-Some.fd, asked)) c.requires.call (sym c.in-Some.ensures) spared in
+    false≢true (c.in_err-answer.ensures.inline none.0 c.if-is_long.ensures) in
+    λ spared. absurd (subst P c.self.view_is never spared)
+
+pub returns-in_err-answer-clause-last : goal.returns-in_err-answer-clause-last
+returns-in_err-answer-clause-last c =
+    let k = c.self.inside in
+    let p : Parts = record { tables = k.tables; interest = k.interest; graph = k.graph; parked = k.waiters; clock = k.clock } in
+    let found = c.in-Some-lookup.ensures in
+    on_err c.from_residual.result
+    (subst (λ (q : Parts). NothingRefusesCall q c.args.pid.0 c.args.call.now) c.self.view_is
+    (object_last p c.args.pid.0 c.in-Some.fd c.in-Some-lookup.desc c.in-Some.asked found.number found.live c.in_err-answer.ensures.last c.args.call.now (sym c.in-Some.ensures)))
+
+pub returns-clause-kept : goal.returns-clause-kept
+returns-clause-kept c = any_call c.args.call.now c.args.kept c.settled.result (λ kept none. c.settled.ensures.inline)
+
+pub returns-clause-room : goal.returns-clause-room
+returns-clause-room c no_room made = absurd (makes_no_timer c.self.inside.tables.files.objects c.args.call.now (c.in-Some.fd, c.in-Some.asked) (sym c.in-Some.ensures) made)
