@@ -57,7 +57,7 @@ fn asks_of(fd: i32) -> [Call; 5] {
 }
 
 /// The calls that make and connect sockets: two on end 3 of a pair, two on numbers that name nothing, and one on none.
-fn of_listeners() -> [Call; 5] {
+fn of_connecting() -> [Call; 5] {
     [
         Call::Socket {
             family: Family::Tcp,
@@ -187,8 +187,49 @@ fn a_half_that_is_shut_is_told(rt: HostRuntime) -> Result<(), Fail> {
     Ok(())
 }
 
-/// Each call of sockets is refused: EBADF where a number names nothing, ENOTSOCK of an eventfd, EINVAL of what makes
-/// and connects them.
+fn bind(fd: i32) -> Call {
+    Call::Bind {
+        fd: Fd(fd),
+        name: PORT,
+    }
+}
+
+fn connect(fd: i32) -> Call {
+    Call::Connect {
+        fd: Fd(fd),
+        name: PORT,
+    }
+}
+
+/// How binds and connects by a name of TCP are refused where nothing has the number 9, 5 is an eventfd and 3 an end of
+/// a pair, and how what listens is, whatever its number names.
+fn without_a_fresh_socket() -> [(Call, Errno); 8] {
+    [
+        (bind(9), Errno::Ebadf),
+        (connect(9), Errno::Ebadf),
+        (bind(5), Errno::Enotsock),
+        (connect(5), Errno::Enotsock),
+        (bind(3), Errno::Einval),
+        (connect(3), Errno::Einval),
+        (
+            Call::Listen {
+                fd: Fd(9),
+                backlog: 5,
+            },
+            Errno::Einval,
+        ),
+        (
+            Call::Accept {
+                fd: Fd(3),
+                cloexec: true,
+            },
+            Errno::Einval,
+        ),
+    ]
+}
+
+/// Each call of sockets is refused: EBADF where a number names nothing, ENOTSOCK of an eventfd, EINVAL of what an end
+/// of a pair can't do, and of what listens.
 struct Refused;
 
 impl Script for Refused {
@@ -206,8 +247,10 @@ impl Script for Refused {
         assert!(rt; call(&mut kernel, counter) == Answer::Num(5));
         refuses(rt, &mut kernel, asks_of(9), Errno::Ebadf);
         refuses(rt, &mut kernel, asks_of(5), Errno::Enotsock);
-        refuses(rt, &mut kernel, of_listeners(), Errno::Einval);
-        assert!(rt; is_run(rt.alloc(), &kernel, 17));
+        for (each, errno) in without_a_fresh_socket() {
+            assert!(rt; call(&mut kernel, each) == Answer::Refused(errno));
+        }
+        assert!(rt; is_run(rt.alloc(), &kernel, 20));
         Ok(())
     }
 }
@@ -240,9 +283,9 @@ impl Script for Before {
             timeout: Timeout(-1),
         };
         assert!(rt; call(&mut kernel, parks) == Answer::Parked);
-        refuses(rt, &mut kernel, of_listeners(), Errno::Ebusy);
+        refuses(rt, &mut kernel, of_connecting(), Errno::Ebusy);
         refuses(rt, &mut kernel, asks_of(3), Errno::Ebusy);
-        for each in of_listeners() {
+        for each in of_connecting() {
             let event = Event::Call {
                 pid: Pid(2),
                 call: each,
@@ -257,5 +300,86 @@ impl Script for Before {
 #[test]
 fn the_caller_comes_before_the_call(rt: HostRuntime) -> Result<(), Fail> {
     on_both_kernels(&rt, &Before)?;
+    Ok(())
+}
+
+/// A TCP socket connects, and nobody listens. It is named, and its error waits. Once that is taken, the next connect
+/// says so, and the one after it connects anew.
+struct Connects;
+
+impl Script for Connects {
+    fn run<K: Kernel + Drop, R: Abort + AllocGlobal + Wait>(
+        &self,
+        rt: &R,
+        mut kernel: K,
+    ) -> Result<(), AllocError> {
+        let socket = Call::Socket {
+            family: Family::Tcp,
+            cloexec: false,
+        };
+        assert!(rt; call(&mut kernel, socket) == Answer::Num(3));
+        assert!(rt; call(&mut kernel, connect(3)) == Answer::Connecting);
+        assert!(rt; call(&mut kernel, own_name(3)) == Answer::Named(Some(GIVEN)));
+        assert!(rt; call(&mut kernel, Call::TakeError { fd: Fd(3) }) == Answer::Num(111));
+        assert!(rt; call(&mut kernel, Call::TakeError { fd: Fd(3) }) == Answer::Num(0));
+        assert!(rt; call(&mut kernel, connect(3)) == Answer::Failed(Errno::Econnaborted));
+        assert!(rt; call(&mut kernel, connect(3)) == Answer::Connecting);
+        assert!(rt; call(&mut kernel, write(3, 1)) == Answer::Failed(Errno::Econnrefused));
+        assert!(rt; call(&mut kernel, write(3, 1)) == Answer::Refused(Errno::Epipe));
+        assert!(rt; is_run(rt.alloc(), &kernel, 9));
+        Ok(())
+    }
+}
+
+/// The first name that is given to a TCP socket.
+const GIVEN: Name = Name {
+    space: Space::V4,
+    number: 32_768,
+};
+
+fn own_name(fd: i32) -> Call {
+    Call::SocketName {
+        fd: Fd(fd),
+        peer: false,
+    }
+}
+
+#[test]
+fn a_connect_that_finds_nobody_is_told(rt: HostRuntime) -> Result<(), Fail> {
+    on_both_kernels(&rt, &Connects)?;
+    Ok(())
+}
+
+/// A TCP socket is bound to the port 80, and another one can't be. When the first is closed, it can.
+struct Binds;
+
+impl Script for Binds {
+    fn run<K: Kernel + Drop, R: Abort + AllocGlobal + Wait>(
+        &self,
+        rt: &R,
+        mut kernel: K,
+    ) -> Result<(), AllocError> {
+        for number in [3, 4] {
+            let socket = Call::Socket {
+                family: Family::Tcp,
+                cloexec: false,
+            };
+            assert!(rt; call(&mut kernel, socket) == Answer::Num(number));
+        }
+        assert!(rt; call(&mut kernel, bind(3)) == Answer::Done);
+        assert!(rt; call(&mut kernel, own_name(3)) == Answer::Named(Some(PORT)));
+        assert!(rt; call(&mut kernel, bind(3)) == Answer::Refused(Errno::Einval));
+        assert!(rt; call(&mut kernel, bind(4)) == Answer::Refused(Errno::Eaddrinuse));
+        assert!(rt; call(&mut kernel, own_name(4)) == Answer::Named(None));
+        assert!(rt; call(&mut kernel, Call::Close { fd: Fd(3) }) == Answer::Done);
+        assert!(rt; call(&mut kernel, bind(4)) == Answer::Done);
+        assert!(rt; is_run(rt.alloc(), &kernel, 9));
+        Ok(())
+    }
+}
+
+#[test]
+fn a_name_is_free_when_its_socket_dies(rt: HostRuntime) -> Result<(), Fail> {
+    on_both_kernels(&rt, &Binds)?;
     Ok(())
 }

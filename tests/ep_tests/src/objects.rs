@@ -3,7 +3,9 @@
 use crate::counters::{at, is_value};
 use crate::streams::{MANY, are_many};
 use ep_base::End::{First, Second};
-use ep_base::{Answer, Buffer, Call, End, Errno, Fd, How, Mask, Moment, Raised, Span};
+use ep_base::{
+    Answer, Buffer, Call, End, Errno, Family, Fd, How, Mask, Moment, Name, Raised, Space, Span,
+};
 use ep_object::{Object, ObjectCall};
 use std::alloc::{AllocError, Global};
 use std::process::Abort;
@@ -27,13 +29,23 @@ fn ask(
     now: Moment,
     call: &Call,
 ) -> Result<(Answer, Raised), AllocError> {
-    let (_, asked) = ObjectCall::of(call).ok_or(AllocError)?;
+    let (_, asked) = ObjectCall::of(call, None).ok_or(AllocError)?;
     object.apply(end, now, &asked)
+}
+
+/// What a socket answers to a call at its first end, where this name was found free.
+fn ask_with(
+    socket: &mut Object,
+    call: &Call,
+    found: Option<Name>,
+) -> Result<(Answer, Raised), AllocError> {
+    let (_, asked) = ObjectCall::of(call, found).ok_or(AllocError)?;
+    socket.apply(First, at(0), &asked)
 }
 
 /// How many bytes a call at the first end could give.
 fn waiting(object: &Object, call: &Call) -> Result<usize, AllocError> {
-    let (_, asked) = ObjectCall::of(call).ok_or(AllocError)?;
+    let (_, asked) = ObjectCall::of(call, None).ok_or(AllocError)?;
     Ok(object.waiting(First, &asked))
 }
 
@@ -82,13 +94,44 @@ const PEER_NAME: Call = Call::SocketName {
     peer: true,
 };
 
-/// Only a socket answers a peek, a shutdown, and what asks for its error or a name.
+const PORT: Name = Name {
+    space: Space::V4,
+    number: 80,
+};
+
+const OTHER: Name = Name {
+    space: Space::V4,
+    number: 32_768,
+};
+
+const PATH: Name = Name {
+    space: Space::Local,
+    number: 7,
+};
+
+fn bind(name: Name) -> Call {
+    Call::Bind { fd: Fd(3), name }
+}
+
+fn connect(name: Name) -> Call {
+    Call::Connect { fd: Fd(3), name }
+}
+
+/// Only a socket answers a peek, a shutdown, what asks for its error or a name, a bind and a connect.
 #[test]
 fn only_a_socket_answers(rt: HostRuntime) -> Result<(), Fail> {
     let mut pipe = Object::pipe(rt.alloc(), 4_096)?;
     ask(&mut pipe, Second, at(0), &write(rt.alloc())?)?;
     assert!(rt; waiting(&pipe, &PEEK)? == 0 && waiting(&pipe, &read(64))? == 20);
-    for call in [PEEK, SHUTDOWN, ERROR, OWN_NAME, PEER_NAME] {
+    for call in [
+        PEEK,
+        SHUTDOWN,
+        ERROR,
+        OWN_NAME,
+        PEER_NAME,
+        bind(PORT),
+        connect(PORT),
+    ] {
         let (refused, _) = ask(&mut pipe, First, at(0), &call)?;
         assert!(rt; refused == Answer::Refused(Errno::Enotsock));
     }
@@ -108,6 +151,105 @@ fn a_pair_answers_as_a_socket(rt: HostRuntime) -> Result<(), Fail> {
     let (own, _) = ask(&mut pair, First, at(0), &OWN_NAME)?;
     let (peer, _) = ask(&mut pair, First, at(0), &PEER_NAME)?;
     assert!(rt; own == Answer::Named(None) && peer == Answer::Named(None));
+    let (bound, _) = ask_with(&mut pair, &bind(PATH), Some(PATH))?;
+    assert!(rt; bound == Answer::Refused(Errno::Einval) && pair.name() == None);
+    let (connected, _) = ask_with(&mut pair, &connect(PATH), Some(PATH))?;
+    assert!(rt; connected == Answer::Refused(Errno::Econnrefused));
+    Ok(())
+}
+
+/// A socket of this family that was never connected answers a read and a write so.
+fn answers_fresh(
+    rt: &(impl Abort + AllocGlobal),
+    family: Family,
+    of_read: Errno,
+    of_write: Errno,
+) -> Result<(), AllocError> {
+    let mut socket = Object::socket(rt.alloc(), family);
+    assert!(rt; socket.present(First, at(0)) == Mask(20) && socket.name() == None);
+    let (given, _) = ask(&mut socket, First, at(0), &read(8))?;
+    let (seen, _) = ask(&mut socket, First, at(0), &PEEK)?;
+    assert!(rt; given == Answer::Refused(of_read) && seen == Answer::Refused(of_read));
+    let (written, _) = ask(&mut socket, First, at(0), &write(rt.alloc())?)?;
+    assert!(rt; written == Answer::Refused(of_write));
+    let (shut, _) = ask(&mut socket, First, at(0), &SHUTDOWN)?;
+    let (peer, _) = ask(&mut socket, First, at(0), &PEER_NAME)?;
+    assert!(rt; shut == Answer::Refused(Errno::Enotconn) && peer == shut);
+    let (error, _) = ask(&mut socket, First, at(0), &ERROR)?;
+    let (own, _) = ask(&mut socket, First, at(0), &OWN_NAME)?;
+    assert!(rt; error == Answer::Num(0) && own == Answer::Named(None));
+    Ok(())
+}
+
+#[test]
+fn a_fresh_socket_has_no_connection(rt: HostRuntime) -> Result<(), Fail> {
+    answers_fresh(&rt, Family::Tcp, Errno::Enotconn, Errno::Epipe)?;
+    answers_fresh(&rt, Family::Unix, Errno::Einval, Errno::Enotconn)?;
+    Ok(())
+}
+
+#[test]
+fn a_socket_is_bound_once(rt: HostRuntime) -> Result<(), Fail> {
+    let mut socket = Object::socket(rt.alloc(), Family::Tcp);
+    let (taken, _) = ask_with(&mut socket, &bind(PORT), None)?;
+    assert!(rt; taken == Answer::Refused(Errno::Eaddrinuse));
+    let (foreign, _) = ask_with(&mut socket, &bind(PATH), Some(PATH))?;
+    assert!(rt; foreign == Answer::Refused(Errno::Eafnosupport) && socket.name() == None);
+    let (bound, _) = ask_with(&mut socket, &bind(PORT), Some(PORT))?;
+    assert!(rt; bound == Answer::Done && socket.name() == Some(PORT));
+    let (again, _) = ask_with(&mut socket, &bind(OTHER), Some(OTHER))?;
+    let (own, _) = ask(&mut socket, First, at(0), &OWN_NAME)?;
+    assert!(rt; again == Answer::Refused(Errno::Einval) && own == Answer::Named(Some(PORT)));
+    assert!(rt; socket.present(First, at(0)) == Mask(20));
+    Ok(())
+}
+
+/// 111 is ECONNREFUSED.
+#[test]
+fn a_connect_that_found_nobody_is_told_once(rt: HostRuntime) -> Result<(), Fail> {
+    let mut socket = Object::socket(rt.alloc(), Family::Tcp);
+    let (begun, raised) = ask_with(&mut socket, &connect(PORT), Some(OTHER))?;
+    assert!(rt; begun == Answer::Connecting && raised.first == Mask(8_221));
+    assert!(rt; socket.present(First, at(0)) == Mask(8_221) && socket.name() == Some(OTHER));
+    let (error, _) = ask(&mut socket, First, at(0), &ERROR)?;
+    let (none, _) = ask(&mut socket, First, at(0), &ERROR)?;
+    assert!(rt; error == Answer::Num(111) && none == Answer::Num(0));
+    assert!(rt; socket.present(First, at(0)) == Mask(8_213));
+    let (given, _) = ask(&mut socket, First, at(0), &read(8))?;
+    let (written, _) = ask(&mut socket, First, at(0), &write(rt.alloc())?)?;
+    assert!(rt; matches!(given, Answer::Bytes(_)) && written == Answer::Refused(Errno::Epipe));
+    let (told, raised) = ask_with(&mut socket, &connect(PORT), None)?;
+    assert!(rt; told == Answer::Failed(Errno::Econnaborted) && raised.first == Mask(0));
+    assert!(rt; socket.present(First, at(0)) == Mask(20) && socket.name() == Some(OTHER));
+    ask_with(&mut socket, &connect(PORT), None)?;
+    let (failed, _) = ask(&mut socket, First, at(0), &read(8))?;
+    assert!(rt; failed == Answer::Failed(Errno::Econnrefused));
+    Ok(())
+}
+
+#[test]
+fn a_unix_connect_is_refused(rt: HostRuntime) -> Result<(), Fail> {
+    let mut socket = Object::socket(rt.alloc(), Family::Unix);
+    let (refused, _) = ask_with(&mut socket, &connect(PATH), Some(PATH))?;
+    let (foreign, _) = ask_with(&mut socket, &connect(PORT), Some(PORT))?;
+    assert!(rt; refused == Answer::Refused(Errno::Econnrefused));
+    assert!(rt; foreign == Answer::Refused(Errno::Einval) && socket.name() == None);
+    Ok(())
+}
+
+/// Whether a call takes a name, where one was found and where none was.
+fn takes(call: &Call) -> Result<(bool, bool), AllocError> {
+    let (_, found) = ObjectCall::of(call, Some(PORT)).ok_or(AllocError)?;
+    let (_, none) = ObjectCall::of(call, None).ok_or(AllocError)?;
+    Ok((found.takes_name(), none.takes_name()))
+}
+
+#[test]
+fn binds_and_connects_take_names(rt: HostRuntime) -> Result<(), Fail> {
+    for call in [bind(PORT), connect(PORT)] {
+        assert!(rt; takes(&call)? == (true, false));
+    }
+    assert!(rt; takes(&OWN_NAME)? == (false, false));
     Ok(())
 }
 
