@@ -43,8 +43,9 @@ enum {
 };
 enum { EP_SHUT_READ = 0, EP_SHUT_WRITE = 1, EP_SHUT_BOTH = 2 };
 enum { EP_V4 = 0, EP_V6 = 1, EP_LOCAL = 2 };
+enum { EP_TCP = 0, EP_UNIX = 1 };
 enum { EP_CLOEXEC = 1, EP_SEMAPHORE = 2, EP_ABSOLUTE = 4, EP_PEER = 8 };
-enum { EP_PARKED = -4096 };
+enum { EP_PARKED = -4096, EP_CONNECTING = -115 };
 
 int32_t ep_open(const struct ep_limits *limits, struct ep_handle *handle);
 int32_t ep_close(struct ep_handle *handle);

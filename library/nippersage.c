@@ -6,6 +6,7 @@
 #include <errno.h>
 #include <fcntl.h>
 #include <limits.h>
+#include <netinet/in.h>
 #include <stdlib.h>
 #include <string.h>
 #include <sys/eventfd.h>
@@ -17,12 +18,14 @@
 /* No read gives more: the largest capacity of a pipe or socket. */
 #define MOST_READ ((size_t)1048576)
 #define MOST_VECTORS 1024
+#define MOST_PORT 65535
 
 _Static_assert(NIPPERSAGE_PARKED == EP_PARKED, "a wait by hand hands the answer of the export on");
 _Static_assert((int)SHUT_RD == (int)EP_SHUT_READ && (int)SHUT_WR == (int)EP_SHUT_WRITE &&
                (int)SHUT_RDWR == (int)EP_SHUT_BOTH, "a shutdown hands its word on");
 _Static_assert((int)NIPPERSAGE_V4 == (int)EP_V4 && (int)NIPPERSAGE_V6 == (int)EP_V6 &&
                (int)NIPPERSAGE_LOCAL == (int)EP_LOCAL, "a name hands its space on");
+_Static_assert(-EINPROGRESS == EP_CONNECTING, "a connect hands the answer of the export on");
 
 void kernel_enter(struct nippersage_kernel *kernel) {
     atomic_fetch_add(&kernel->inside, 1);
@@ -232,6 +235,15 @@ int nippersage_socketpair(struct nippersage_task task, int domain, int type, int
     return ends_of(task, EP_SOCKETPAIR, cloexec(type & SOCK_CLOEXEC), ends);
 }
 
+int nippersage_socket(struct nippersage_task task, int domain, int type, int protocol) {
+    int is_tcp = domain == AF_INET || domain == AF_INET6;
+    if (!is_tcp && domain != AF_UNIX) return -EAFNOSUPPORT;
+    if ((type & ~(SOCK_CLOEXEC | SOCK_NONBLOCK)) != SOCK_STREAM) return -ESOCKTNOSUPPORT;
+    if (protocol != 0 && !(is_tcp && protocol == IPPROTO_TCP)) return -EPROTONOSUPPORT;
+    return (int)ASK(task, .event = EP_SOCKET, .number = is_tcp ? EP_TCP : EP_UNIX,
+                    .flags = cloexec(type & SOCK_CLOEXEC));
+}
+
 int nippersage_eventfd(struct nippersage_task task, unsigned int initval, int flags) {
     uint32_t bits = cloexec(flags & EFD_CLOEXEC) | (flags & EFD_SEMAPHORE ? EP_SEMAPHORE : 0);
     if (flags & ~(EFD_CLOEXEC | EFD_NONBLOCK | EFD_SEMAPHORE)) return -EINVAL;
@@ -297,6 +309,21 @@ int nippersage_getsockname(struct nippersage_task task, int fd, struct nippersag
 
 int nippersage_getpeername(struct nippersage_task task, int fd, struct nippersage_name *name) {
     return name_of_socket(task, fd, EP_PEER, name);
+}
+
+/* A call that is given a name. */
+static int ask_with_name(struct nippersage_task task, uint32_t event, int fd, struct nippersage_name name) {
+    int is_port = name.space == NIPPERSAGE_V4 || name.space == NIPPERSAGE_V6;
+    if (is_port ? name.number > MOST_PORT : name.space != NIPPERSAGE_LOCAL) return -EINVAL;
+    return (int)ASK(task, .event = event, .fd = fd, .number = name.space, .count = name.number);
+}
+
+int nippersage_bind(struct nippersage_task task, int fd, struct nippersage_name name) {
+    return ask_with_name(task, EP_BIND, fd, name);
+}
+
+int nippersage_connect(struct nippersage_task task, int fd, struct nippersage_name name) {
+    return ask_with_name(task, EP_CONNECT, fd, name);
 }
 
 int nippersage_dup(struct nippersage_task task, int fd) { return (int)ASK(task, .event = EP_DUP, .fd = fd); }

@@ -33,7 +33,9 @@
  *
  * Errors of every function that takes a task, beside its system call's: -ESRCH where the process isn't there,
  * -EBUSY while the caller is parked, -EINVAL where the kernel is NULL, -EFAULT for a NULL where something has to
- * be, -ENOMEM for want of memory, which changes nothing. An error changes nothing but the history. */
+ * be, -ENOMEM for want of memory, which changes nothing. An error changes nothing but the history, with two exceptions
+ * at a TCP socket: -EINPROGRESS of a connect, and an error that waited there, which is taken by the call that answers
+ * it. */
 #ifndef NIPPERSAGE_H
 #define NIPPERSAGE_H
 
@@ -113,6 +115,12 @@ int nippersage_pipe2(struct nippersage_task task, int ends[2], int flags);
 /* socketpair(2). AF_UNIX (else -EAFNOSUPPORT) and SOCK_STREAM (else -ESOCKTNOSUPPORT) with SOCK_CLOEXEC and
  * SOCK_NONBLOCK, protocol 0 (else -EPROTONOSUPPORT). -EMFILE, -ENFILE. */
 int nippersage_socketpair(struct nippersage_task task, int domain, int type, int protocol, int ends[2]);
+
+/* socket(2): the descriptor of a new socket, which has no connection and no name. AF_INET and AF_INET6 make one of TCP,
+ * and both the same, AF_UNIX makes a Unix one (else -EAFNOSUPPORT). SOCK_STREAM (else -ESOCKTNOSUPPORT) with
+ * SOCK_CLOEXEC and SOCK_NONBLOCK, protocol 0, or IPPROTO_TCP for the first two (else -EPROTONOSUPPORT). -EMFILE,
+ * -ENFILE. */
+int nippersage_socket(struct nippersage_task task, int domain, int type, int protocol);
 
 /* eventfd(2). Flags: EFD_CLOEXEC, EFD_NONBLOCK, EFD_SEMAPHORE. -EMFILE, -ENFILE. */
 int nippersage_eventfd(struct nippersage_task task, unsigned int initval, int flags);
@@ -205,20 +213,23 @@ int nippersage_watches_awaited(struct nippersage_kernel *kernel, uint32_t caller
                                int room);
 
 /* read(2), write(2), readv(2), writev(2). At most 0x7ffff000 bytes go in one call, as on Linux. -EAGAIN, -EPIPE; no
- * signal. */
+ * signal. At a socket without a connection a read of a byte or more is -ENOTCONN (TCP) or -EINVAL (Unix), and a write
+ * -EPIPE (TCP) or -ENOTCONN (Unix). If its connect failed, the error that waits there comes first. After that a read
+ * gives no bytes, and a write is -EPIPE. */
 ssize_t nippersage_read(struct nippersage_task task, int fd, void *bytes, size_t count);
 ssize_t nippersage_write(struct nippersage_task task, int fd, const void *bytes, size_t count);
 ssize_t nippersage_readv(struct nippersage_task task, int fd, const struct iovec *vectors, int count);
 ssize_t nippersage_writev(struct nippersage_task task, int fd, const struct iovec *vectors, int count);
 
-/* shutdown(2) of the reading, SHUT_RD, the writing, SHUT_WR, or both, SHUT_RDWR. */
+/* shutdown(2) of the reading, SHUT_RD, the writing, SHUT_WR, or both, SHUT_RDWR. -ENOTSOCK, -ENOTCONN if there is no
+ * connection. */
 int nippersage_shutdown(struct nippersage_task task, int fd, int how);
 
-/* recv(2) with MSG_PEEK: what a read of a socket would give, which stays there. -EAGAIN, -ENOTSOCK. */
+/* recv(2) with MSG_PEEK: what a read of a socket would give, which stays there. -ENOTSOCK, and the errors of a read. */
 ssize_t nippersage_peek(struct nippersage_task task, int fd, void *bytes, size_t count);
 
 /* getsockopt(2) with SO_ERROR: the number of the error that waits at a socket, which is taken by this. 0 if none waits:
- * at an end of a socket pair none ever does. -ENOTSOCK. */
+ * at an end of a socket pair none ever does. A connect that failed leaves ECONNREFUSED. -ENOTSOCK. */
 int nippersage_take_error(struct nippersage_task task, int fd);
 
 /* Where a name is one: a port of IPv4 or of IPv6, or a number that stands for a name of a Unix socket. */
@@ -230,9 +241,30 @@ struct nippersage_name {
 };
 
 /* getsockname(2), getpeername(2): 1 and the name of the socket, or of the one at the other end. 0 if that has none, as
- * both ends of a socket pair; then *name stays. -ENOTSOCK. */
+ * both ends of a socket pair; then *name stays. -ENOTSOCK. The second is -ENOTCONN if there is no connection. */
 int nippersage_getsockname(struct nippersage_task task, int fd, struct nippersage_name *name);
 int nippersage_getpeername(struct nippersage_task task, int fd, struct nippersage_name *name);
+
+/* bind(2): gives a socket its name, which it keeps until it dies. Number 0 asks for any: that is the lowest from 32,768
+ * to 60,999 that no socket has in this space, and nippersage_getsockname tells it. A TCP socket has names in V4 and V6,
+ * else it is -EAFNOSUPPORT, and a Unix one in LOCAL, else it is -EINVAL. -ENOTSOCK. -EINVAL if the socket has a name or
+ * a connection, or if its connect failed. -EADDRINUSE if the name is taken, or number 0 finds none free. A space that
+ * isn't one of these, or a number above 65,535 in V4 or V6, is no name: that is -EINVAL before the kernel is asked, and
+ * no event. */
+int nippersage_bind(struct nippersage_task task, int fd, struct nippersage_name name);
+
+/* connect(2): 0 if it is done, -EINPROGRESS if it connects. Nobody listens yet, so no connect gets through. -ENOTSOCK.
+ * What is no name is -EINVAL, as for nippersage_bind.
+ *
+ * That of a Unix socket is -ECONNREFUSED, which changes nothing, or -EINVAL for a name in V4 or V6.
+ *
+ * That of a TCP socket is -EINPROGRESS, and it has failed when the call returns. Then the socket shows EPOLLIN,
+ * EPOLLOUT, EPOLLERR, EPOLLHUP and EPOLLRDHUP, and ECONNREFUSED waits there. It is taken by nippersage_take_error, or
+ * by a read, peek or write of a byte or more. The next connect of any name tells that this one failed: it is
+ * -ECONNREFUSED, or -ECONNABORTED if the error was taken. The one after that connects anew. Else it is -EAFNOSUPPORT
+ * for a name in LOCAL, and -EADDRNOTAVAIL if the socket has no name and none is free. A connect gives it one, as a bind
+ * of number 0 does. */
+int nippersage_connect(struct nippersage_task task, int fd, struct nippersage_name name);
 
 /* dup(2), dup2(2), dup3(2). O_CLOEXEC in dup3 is -EOPNOTSUPP, which the kernel hasn't. */
 int nippersage_dup(struct nippersage_task task, int fd);

@@ -145,7 +145,9 @@ static void follow(struct tables *tables, const struct step *step) {
         open_file(tables, step, step->first);
         open_file(tables, step, step->second);
         break;
-    case EP_EVENTFD: case EP_TIMERFD: case EP_PLAIN: case EP_CREATE: open_file(tables, step, (int)step->result); break;
+    case EP_EVENTFD: case EP_TIMERFD: case EP_PLAIN: case EP_CREATE: case EP_SOCKET:
+        open_file(tables, step, (int)step->result);
+        break;
     case EP_CTL: change_watch(tables, step); break;
     case EP_WAIT: note_wait(tables, step); break;
     case EP_RESUME: note_resumption(tables, step); break;

@@ -39,7 +39,7 @@ const char *error_name(int64_t number) {
         {EMSGSIZE, "EMSGSIZE"}, {EOPNOTSUPP, "EOPNOTSUPP"}, {EAFNOSUPPORT, "EAFNOSUPPORT"},
         {EADDRINUSE, "EADDRINUSE"}, {EADDRNOTAVAIL, "EADDRNOTAVAIL"}, {ECONNABORTED, "ECONNABORTED"},
         {ECONNRESET, "ECONNRESET"}, {EISCONN, "EISCONN"}, {ENOTCONN, "ENOTCONN"}, {ETIMEDOUT, "ETIMEDOUT"},
-        {ECONNREFUSED, "ECONNREFUSED"}, {EALREADY, "EALREADY"}, {ECANCELED, "ECANCELED"},
+        {ECONNREFUSED, "ECONNREFUSED"}, {EALREADY, "EALREADY"}, {EINPROGRESS, "EINPROGRESS"}, {ECANCELED, "ECANCELED"},
     };
     for (size_t i = 0; i < sizeof errors / sizeof errors[0]; i++)
         if (errors[i].number == number) return errors[i].name;
@@ -131,6 +131,17 @@ static void text_shutdown(struct text *text, const struct ep_request *request) {
     if (request->number == EP_SHUT_BOTH) text_add(text, ", SHUT_RDWR");
 }
 
+static void text_name(struct text *text, int32_t space, uint64_t number) {
+    static const char *const spaces[] = {[EP_V4] = "v4", [EP_V6] = "v6", [EP_LOCAL] = "local"};
+    text_add(text, "(%s, %" PRIu64 ")", spaces[space], number);
+}
+
+/* A bind or connect. */
+static void text_naming(struct text *text, const struct ep_request *request) {
+    text_add(text, "%s(%d, ", request->event == EP_BIND ? "bind" : "connect", request->fd);
+    text_name(text, request->number, request->count);
+}
+
 /* The name of a call with its words, up to the closing bracket. */
 static void text_words(struct text *text, const struct step *step) {
     static const char *const names[] = {
@@ -162,6 +173,8 @@ static void text_words(struct text *text, const struct step *step) {
         text_time(text, request->value);
         break;
     case EP_SHUTDOWN: text_shutdown(text, request); break;
+    case EP_SOCKET: text_add(text, "socket(%s", request->number == EP_TCP ? "tcp" : "unix"); break;
+    case EP_BIND: case EP_CONNECT: text_naming(text, request); break;
     case EP_DUP: case EP_CLOSE: case EP_GETTIME: case EP_SOCKERR:
         text_add(text, "%s(%d", names[request->event], request->fd);
         break;
@@ -197,7 +210,7 @@ enum answer answer_of(const struct step *step) {
     case EP_READ: case EP_PEEK: return BYTES;
     case EP_SOCKNAME: return A_NAME;
     case EP_SETTIME: case EP_GETTIME: return TWO_TIMES;
-    case EP_EVENTFD: case EP_TIMERFD: case EP_PLAIN: case EP_CREATE: return A_NUMBER;
+    case EP_EVENTFD: case EP_TIMERFD: case EP_PLAIN: case EP_CREATE: case EP_SOCKET: return A_NUMBER;
     case EP_WRITE: case EP_DUP: case EP_DUP2: case EP_FORK: case EP_SOCKERR: return A_NUMBER;
     default: return NOTHING;
     }
@@ -211,12 +224,11 @@ static void text_times(struct text *text, const struct step *step) {
     text_add(text, ")");
 }
 
-static void text_name(struct text *text, const struct step *step) {
-    static const char *const spaces[] = {[EP_V4] = "v4", [EP_V6] = "v6", [EP_LOCAL] = "local"};
+static void text_name_told(struct text *text, const struct step *step) {
     if (step->result == 0)
         text_add(text, "no name");
     else
-        text_add(text, "(%s, %" PRIu64 ")", spaces[step->first], step->value);
+        text_name(text, step->first, step->value);
 }
 
 void text_answer(struct text *text, const struct steps *steps, const struct step *step) {
@@ -228,7 +240,7 @@ void text_answer(struct text *text, const struct steps *steps, const struct step
     case TWO_NUMBERS: text_add(text, "(%d, %d)", step->first, step->second); break;
     case TWO_TIMES: text_times(text, step); break;
     case BYTES: text_bytes(text, step->got, (uint64_t)step->result); break;
-    case A_NAME: text_name(text, step); break;
+    case A_NAME: text_name_told(text, step); break;
     case REPORTS: text_reports(text, steps, step); break;
     }
 }

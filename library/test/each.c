@@ -151,6 +151,202 @@ static void sockets(void) {
     IS(nippersage_close(one, counter), 0);
 }
 
+static struct nippersage_name port(uint32_t number) { return (struct nippersage_name){NIPPERSAGE_V4, number}; }
+static struct nippersage_name port_of_v6(uint32_t number) { return (struct nippersage_name){NIPPERSAGE_V6, number}; }
+static struct nippersage_name local(uint32_t number) { return (struct nippersage_name){NIPPERSAGE_LOCAL, number}; }
+
+/* The bits that a socket shows. */
+static uint32_t shown_at(int fd) {
+    struct epoll_event event = {.events = EPOLLIN | EPOLLOUT | EPOLLRDHUP}, found = {.events = 0};
+    int ep = nippersage_epoll_create1(one, 0);
+    IS(nippersage_epoll_ctl(one, ep, EPOLL_CTL_ADD, fd, &event), 0);
+    IS(nippersage_epoll_wait(one, ep, &found, 1, 0), 1);
+    IS(nippersage_close(one, ep), 0);
+    return found.events;
+}
+
+/* A socket has this name. */
+static void is_named(int fd, struct nippersage_name wanted) {
+    struct nippersage_name name = {7, 7};
+    IS(nippersage_getsockname(one, fd, &name), 1);
+    IS(name.space, wanted.space);
+    IS(name.number, wanted.number);
+}
+
+/* What socket(2) makes, and what it takes. */
+static void new_sockets(void) {
+    struct nippersage_limits few = {4, 4096, 64, 4096, 65536, 65536}, no_files = {1024, 2, 64, 4096, 65536, 65536};
+    struct nippersage_task other = {NULL, 1, 1};
+    IS(nippersage_socket(one, AF_INET, SOCK_STREAM | SOCK_CLOEXEC | SOCK_NONBLOCK, IPPROTO_TCP), 3);
+    IS(nippersage_socket(one, AF_INET6, SOCK_STREAM, IPPROTO_TCP), 4);
+    IS(nippersage_socket(one, AF_UNIX, SOCK_STREAM, 0), 5);
+    IS(nippersage_socket(one, AF_NETLINK, SOCK_STREAM, 0), -EAFNOSUPPORT);
+    IS(nippersage_socket(one, AF_INET, SOCK_DGRAM, 0), -ESOCKTNOSUPPORT);
+    IS(nippersage_socket(one, AF_INET6, SOCK_STREAM, IPPROTO_UDP), -EPROTONOSUPPORT);
+    IS(nippersage_socket(one, AF_UNIX, SOCK_STREAM, IPPROTO_TCP), -EPROTONOSUPPORT);
+    IS(nippersage_socket(other, AF_INET, SOCK_STREAM, 0), -EINVAL);
+    IS(nippersage_execve(one), 0);
+    IS(nippersage_close(one, 3), -EBADF);
+    IS(nippersage_close(one, 4), 0);
+    IS(nippersage_close(one, 5), 0);
+    IS(nippersage_open(&few, &other.kernel), 0);
+    IS(nippersage_socket(other, AF_INET, SOCK_STREAM, 0), 3);
+    IS(nippersage_socket(other, AF_UNIX, SOCK_STREAM, 0), -EMFILE);
+    nippersage_free(other.kernel);
+    IS(nippersage_open(&no_files, &other.kernel), 0);
+    IS(nippersage_socket(other, AF_UNIX, SOCK_STREAM, 0), 3);
+    IS(nippersage_socket(other, AF_INET, SOCK_STREAM, 0), -ENFILE);
+    nippersage_free(other.kernel);
+}
+
+/* What a socket answers that has no connection. */
+static void without_a_connection(void) {
+    struct nippersage_name name = {7, 7};
+    char bytes[8];
+    IS(nippersage_socket(one, AF_INET, SOCK_STREAM, 0), 3);
+    IS(nippersage_socket(one, AF_UNIX, SOCK_STREAM, 0), 4);
+    IS(nippersage_read(one, 3, bytes, 8), -ENOTCONN);
+    IS(nippersage_peek(one, 3, bytes, 8), -ENOTCONN);
+    IS(nippersage_write(one, 3, "a", 1), -EPIPE);
+    IS(nippersage_read(one, 4, bytes, 8), -EINVAL);
+    IS(nippersage_peek(one, 4, bytes, 8), -EINVAL);
+    IS(nippersage_write(one, 4, "a", 1), -ENOTCONN);
+    for (int fd = 3; fd <= 4; fd++) {
+        IS(nippersage_read(one, fd, bytes, 0), 0);
+        IS(nippersage_write(one, fd, bytes, 0), 0);
+        IS(nippersage_shutdown(one, fd, SHUT_RDWR), -ENOTCONN);
+        IS(nippersage_take_error(one, fd), 0);
+        IS(nippersage_getsockname(one, fd, &name), 0);
+        IS(nippersage_getpeername(one, fd, &name), -ENOTCONN);
+        IS(name.space == 7 && name.number == 7, 1);
+        IS(shown_at(fd), EPOLLOUT | EPOLLHUP);
+        IS(nippersage_close(one, fd), 0);
+    }
+}
+
+static void names_given(void) {
+    int ends[2];
+    IS(nippersage_socket(one, AF_INET, SOCK_STREAM, 0), 3);
+    IS(nippersage_socket(one, AF_INET, SOCK_STREAM, 0), 4);
+    IS(nippersage_socket(one, AF_UNIX, SOCK_STREAM, 0), 5);
+    IS(nippersage_socketpair(one, AF_UNIX, SOCK_STREAM, 0, ends), 0);
+    IS(nippersage_bind(one, 3, local(80)), -EAFNOSUPPORT);
+    IS(nippersage_bind(one, 3, port(80)), 0);
+    is_named(3, port(80));
+    IS(nippersage_bind(one, 3, port(81)), -EINVAL);
+    IS(nippersage_bind(one, 4, port(80)), -EADDRINUSE);
+    IS(nippersage_bind(one, 4, port_of_v6(80)), 0);
+    is_named(4, port_of_v6(80));
+    IS(nippersage_bind(one, 5, port(0)), -EINVAL);
+    IS(nippersage_bind(one, 5, local(0)), 0);
+    is_named(5, local(32768));
+    IS(nippersage_bind(one, ends[0], local(9)), -EINVAL);
+    IS(nippersage_bind(one, 0, port(9)), -ENOTSOCK);
+    IS(nippersage_bind(one, 77, port(9)), -EBADF);
+    IS(nippersage_close(one, 3), 0);
+    IS(nippersage_socket(one, AF_INET6, SOCK_STREAM, 0), 3);
+    IS(nippersage_bind(one, 3, port(80)), 0); /* it is free again */
+    for (int fd = 3; fd <= 7; fd++) IS(nippersage_close(one, fd), 0);
+}
+
+/* What is no name is no event. Those at the ends of their ranges are names. */
+static void no_names(void) {
+    static const struct nippersage_name none[] = {
+        {3, 1}, {-1, 1}, {NIPPERSAGE_V4, 65536}, {NIPPERSAGE_V6, 65536}, {NIPPERSAGE_V4, UINT32_MAX}};
+    size_t before = 0, after = 0;
+    IS(nippersage_socket(one, AF_INET, SOCK_STREAM, 0), 3);
+    IS(nippersage_socket(one, AF_INET, SOCK_STREAM, 0), 4);
+    IS(nippersage_socket(one, AF_UNIX, SOCK_STREAM, 0), 5);
+    IS(nippersage_records(kernel, &before), 0);
+    for (size_t i = 0; i < sizeof none / sizeof *none; i++) {
+        IS(nippersage_bind(one, 3, none[i]), -EINVAL);
+        IS(nippersage_connect(one, 3, none[i]), -EINVAL);
+    }
+    IS(nippersage_records(kernel, &after), 0);
+    IS(after, before);
+    IS(nippersage_bind(one, 3, port(65535)), 0);
+    IS(nippersage_bind(one, 4, port_of_v6(65535)), 0);
+    IS(nippersage_bind(one, 5, local(UINT32_MAX)), 0);
+    is_named(5, local(UINT32_MAX));
+    for (int fd = 3; fd <= 5; fd++) IS(nippersage_close(one, fd), 0);
+}
+
+/* All names that a connect can take by itself, on a kernel of their own. */
+static void no_free_name(void) {
+    struct nippersage_limits limits = {65536, 1000000, 64, 4096, 65536, 65536};
+    struct nippersage_task task = {NULL, 1, 1};
+    IS(nippersage_open(&limits, &task.kernel), 0);
+    for (uint32_t number = 32768; number < 61000; number++) {
+        int fd = nippersage_socket(task, AF_INET, SOCK_STREAM, 0);
+        IS(nippersage_bind(task, fd, port(number)), 0);
+    }
+    IS(nippersage_socket(task, AF_INET, SOCK_STREAM, 0), 28235);
+    IS(nippersage_connect(task, 28235, port(80)), -EADDRNOTAVAIL);
+    IS(nippersage_bind(task, 28235, port(0)), -EADDRINUSE);
+    IS(nippersage_connect(task, 28235, port_of_v6(80)), -EINPROGRESS);
+    nippersage_free(task.kernel);
+}
+
+/* A connect of TCP that finds nobody, what it leaves, and the ones after it. */
+static void failed_connects(void) {
+    char bytes[8];
+    IS(nippersage_socket(one, AF_INET, SOCK_STREAM, 0), 3);
+    IS(nippersage_connect(one, 3, local(80)), -EAFNOSUPPORT);
+    IS(nippersage_connect(one, 3, port(80)), -EINPROGRESS);
+    is_named(3, port(32768));
+    IS(shown_at(3), EPOLLIN | EPOLLOUT | EPOLLERR | EPOLLHUP | EPOLLRDHUP);
+    IS(nippersage_take_error(one, 3), ECONNREFUSED);
+    IS(ECONNREFUSED, 111);
+    IS(nippersage_take_error(one, 3), 0);
+    IS(shown_at(3), EPOLLIN | EPOLLOUT | EPOLLHUP | EPOLLRDHUP);
+    IS(nippersage_read(one, 3, bytes, 8), 0);
+    IS(nippersage_write(one, 3, "a", 1), -EPIPE);
+    IS(nippersage_shutdown(one, 3, SHUT_RD), -ENOTCONN);
+    IS(nippersage_bind(one, 3, port(9)), -EINVAL);
+    IS(nippersage_connect(one, 3, local(1)), -ECONNABORTED);
+    IS(shown_at(3), EPOLLOUT | EPOLLHUP);
+    IS(nippersage_connect(one, 3, port(80)), -EINPROGRESS);
+    IS(nippersage_connect(one, 3, port(80)), -ECONNREFUSED);
+    IS(nippersage_connect(one, 3, port(80)), -EINPROGRESS);
+    IS(nippersage_read(one, 3, bytes, 0), 0); /* takes no error */
+    IS(nippersage_read(one, 3, bytes, 1), -ECONNREFUSED);
+    IS(nippersage_read(one, 3, bytes, 1), 0);
+    IS(nippersage_connect(one, 3, port(80)), -ECONNABORTED);
+    IS(nippersage_connect(one, 3, port_of_v6(80)), -EINPROGRESS);
+    IS(nippersage_write(one, 3, "a", 1), -ECONNREFUSED);
+    IS(nippersage_write(one, 3, "a", 1), -EPIPE);
+    IS(nippersage_take_error(one, 3), 0);
+    IS(nippersage_close(one, 3), 0);
+}
+
+/* Nobody listens, whatever the name. */
+static void connects_of_unix(void) {
+    int ends[2];
+    IS(nippersage_socket(one, AF_UNIX, SOCK_STREAM, 0), 3);
+    IS(nippersage_socketpair(one, AF_UNIX, SOCK_STREAM, 0, ends), 0);
+    IS(nippersage_bind(one, 3, local(7)), 0);
+    IS(nippersage_connect(one, 3, local(7)), -ECONNREFUSED);
+    IS(nippersage_connect(one, 3, local(8)), -ECONNREFUSED);
+    IS(nippersage_connect(one, 3, port(7)), -EINVAL);
+    IS(nippersage_take_error(one, 3), 0);
+    IS(shown_at(3), EPOLLOUT | EPOLLHUP);
+    IS(nippersage_connect(one, ends[0], local(7)), -ECONNREFUSED);
+    IS(nippersage_connect(one, ends[1], port_of_v6(7)), -EINVAL);
+    IS(nippersage_connect(one, 0, local(7)), -ENOTSOCK);
+    IS(nippersage_connect(one, 77, local(7)), -EBADF);
+    for (int fd = 3; fd <= 5; fd++) IS(nippersage_close(one, fd), 0);
+}
+
+static void sockets_without_a_connection(void) {
+    new_sockets();
+    without_a_connection();
+    names_given();
+    no_names();
+    no_free_name();
+    failed_connects();
+    connects_of_unix();
+}
+
 static void counters(void) {
     uint64_t count = 0;
     int fd = nippersage_eventfd(one, 3, EFD_SEMAPHORE | EFD_CLOEXEC | EFD_NONBLOCK);
@@ -800,6 +996,7 @@ int main(int argc, char **argv) {
     pipes();
     vectors();
     sockets();
+    sockets_without_a_connection();
     counters();
     timers();
     bounds();

@@ -54,6 +54,10 @@ static void calls(struct nippersage_kernel *kernel) {
     AGAIN(nippersage_fork(one), 2);
     AGAIN(nippersage_dup(one, 3), 7);
     AGAIN(nippersage_close(one, 3), 0);
+    AGAIN(nippersage_socket(one, AF_INET, SOCK_STREAM, 0), 3);
+    AGAIN(nippersage_bind(one, 3, (struct nippersage_name){NIPPERSAGE_V4, 0}), 0);
+    AGAIN(nippersage_connect(one, 3, (struct nippersage_name){NIPPERSAGE_V4, 80}), -EINPROGRESS);
+    AGAIN(nippersage_take_error(one, 3), ECONNREFUSED);
     AGAIN(nippersage_check(kernel), 0);
     sink = open("/dev/null", O_WRONLY);
     AGAIN(nippersage_history(kernel, sink), 0);

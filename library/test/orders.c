@@ -248,23 +248,94 @@ static int asks_a_socket(struct nippersage_task task, void *shared) {
     return nippersage_fail(task, "told");
 }
 
-/* What a socket alone is asked, told line by line. Blanks that only fill columns are left out. */
-static void words_of_sockets(void) {
-    struct example example = {.setup = socket_pair, .tasks = {{.name = "t", .run = asks_a_socket}}, .count = 1};
+/* The message of a task that fails as it is told, line by line. Blanks that only fill columns are left out. */
+static void is_told(int (*run)(struct nippersage_task task, void *shared), const char *wanted) {
+    struct example example = {.setup = socket_pair, .tasks = {{.name = "t", .run = run}}, .count = 1};
     struct nippersage_result result = explore(&example, NULL, 1);
     char *to = result.message;
     for (const char *from = result.message; *from; from++)
         if (*from != ' ' || (to > result.message && to[-1] != ' ')) *to++ = *from;
     *to = 0;
-    has_text(result.message,
-             " setup socketpair() (3, 4)\n"
-             " 1 t peek(3, 3) EAGAIN\n"
-             " 2 t write(4, \"ping\") 4\n"
-             " 3 t peek(3, 3) \"pin\"\n"
-             " 4 t take_error(3) 0\n"
-             " 5 t getsockname(3) no name\n"
-             " 6 t getpeername(0) ENOTSOCK\n"
-             " 7 t shutdown(3, SHUT_RDWR)\n");
+    has_text(result.message, wanted);
+    nippersage_result_free(&result);
+}
+
+/* What a socket alone is asked. */
+static void words_of_sockets(void) {
+    is_told(asks_a_socket,
+            " setup socketpair() (3, 4)\n"
+            " 1 t peek(3, 3) EAGAIN\n"
+            " 2 t write(4, \"ping\") 4\n"
+            " 3 t peek(3, 3) \"pin\"\n"
+            " 4 t take_error(3) 0\n"
+            " 5 t getsockname(3) no name\n"
+            " 6 t getpeername(0) ENOTSOCK\n"
+            " 7 t shutdown(3, SHUT_RDWR)\n");
+}
+
+static int makes_sockets(struct nippersage_task task, void *shared) {
+    struct nippersage_name name = {NIPPERSAGE_V6, 80}, any = {NIPPERSAGE_LOCAL, 0}, none = {NIPPERSAGE_V4, 65536};
+    struct epoll_event event = {.events = EPOLLIN, .data.u64 = 7};
+    (void)shared;
+    nippersage_socket(task, AF_INET6, SOCK_STREAM | SOCK_CLOEXEC, 0);
+    nippersage_socket(task, AF_UNIX, SOCK_STREAM, 0);
+    nippersage_bind(task, 5, name);
+    nippersage_bind(task, 6, any);
+    nippersage_bind(task, 6, none);
+    nippersage_getsockname(task, 6, &any);
+    nippersage_connect(task, 6, any);
+    nippersage_connect(task, 5, name);
+    nippersage_take_error(task, 5);
+    nippersage_epoll_create1(task, 0);
+    nippersage_epoll_ctl(task, 7, EPOLL_CTL_ADD, 5, &event);
+    nippersage_epoll_wait(task, 7, &event, 1, 0);
+    return nippersage_fail(task, "told");
+}
+
+/* The calls of sockets without a connection. What is no name makes no event, and so has no line. */
+static void words_of_new_sockets(void) {
+    is_told(makes_sockets,
+            " 1 t socket(tcp, CLOEXEC) 5\n"
+            " 2 t socket(unix) 6\n"
+            " 3 t bind(5, (v6, 80))\n"
+            " 4 t bind(6, (local, 0))\n"
+            " 5 t getsockname(6) (local, 32768)\n"
+            " 6 t connect(6, (local, 32768)) ECONNREFUSED\n"
+            " 7 t connect(5, (v6, 80)) EINPROGRESS\n"
+            " 8 t take_error(5) 111\n"
+            " 9 t epoll_create1() 7\n"
+            " 10 t epoll_ctl(7, ADD, 5, IN, 7)\n"
+            " 11 t epoll_wait(7, 1, 0) [(IN|HUP, 7)]\n");
+}
+
+/* A socket is a file as any other: its registration is one of the instance at which a task sleeps. */
+static int watched_socket(struct nippersage_kernel *kernel, void *shared) {
+    struct shared *e = start(shared);
+    struct nippersage_task task = {kernel, 0, 1};
+    TRY(e->reader = nippersage_socket(task, AF_INET, SOCK_STREAM, 0));
+    TRY(e->ep = nippersage_epoll_create1(task, 0));
+    return add(task, e->ep, e->reader, EPOLLIN | EPOLLET, 7);
+}
+
+static int sleeps_beside(struct nippersage_task task, void *shared) {
+    const struct shared *e = shared;
+    struct epoll_event event;
+    for (;;) TRY(nippersage_epoll_wait(task, e->ep, &event, 1, -1));
+}
+
+static int connects(struct nippersage_task task, void *shared) {
+    const struct shared *e = shared;
+    int status = nippersage_connect(task, e->reader, (struct nippersage_name){NIPPERSAGE_V4, 80});
+    return status == -EINPROGRESS ? 0 : nippersage_fail(task, "it doesn't connect");
+}
+
+static void beside_a_socket(void) {
+    struct example example = {.setup = watched_socket, .count = 2,
+                              .tasks = {{.name = "loop", .run = sleeps_beside, .is_daemon = 1},
+                                        {.name = "peer", .run = connects}}};
+    struct nippersage_result result = explore(&example, NULL, 1);
+    IS(result.kind, NIPPERSAGE_BESIDE);
+    has_text(result.message, "asleep beside data: loop at 4: fd 3 shows IN|OUT|ERR|HUP|RDHUP, registered IN|ET, ");
     nippersage_result_free(&result);
 }
 
@@ -709,6 +780,8 @@ int main(int argc, char **argv) {
     faults();
     message();
     words_of_sockets();
+    words_of_new_sockets();
+    beside_a_socket();
     clocks();
     beside();
     by_hand();
