@@ -63,6 +63,7 @@ numbers! {
     ENOTCONN = 107, "endpoint is not connected";
     ECONNREFUSED = 111, "connection refused";
     EALREADY = 114, "operation already in progress";
+    EINPROGRESS = 115, "operation now in progress";
     ECANCELED = 125, "operation canceled";
 }
 

@@ -265,6 +265,9 @@ extern "C" {
     pub fn nippersage_take_error(task: Task, fd: c_int) -> c_int;
     pub fn nippersage_getsockname(task: Task, fd: c_int, name: *mut Name) -> c_int;
     pub fn nippersage_getpeername(task: Task, fd: c_int, name: *mut Name) -> c_int;
+    pub fn nippersage_socket(task: Task, domain: c_int, kind: c_int, protocol: c_int) -> c_int;
+    pub fn nippersage_bind(task: Task, fd: c_int, name: Name) -> c_int;
+    pub fn nippersage_connect(task: Task, fd: c_int, name: Name) -> c_int;
 
     pub fn nippersage_dup(task: Task, fd: c_int) -> c_int;
     pub fn nippersage_dup2(task: Task, fd: c_int, to: c_int) -> c_int;

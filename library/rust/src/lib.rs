@@ -69,7 +69,7 @@ pub use errno::Errno;
 pub use events::{Event, Events};
 pub use kernel::{Kernel, Limits, Part, Waiter};
 pub use owned::Owned;
-pub use task::{Clock, Fd, Flags, Name, Pid, Space, Task};
+pub use task::{Clock, Family, Fd, Flags, Name, Pid, Space, Task};
 pub use time::Setting;
 pub use watch::Watch;
 

@@ -64,6 +64,15 @@ impl BitOr for Flags {
     }
 }
 
+/// What a socket speaks.
+#[derive(Clone, Copy, Debug, PartialEq, Eq, Hash, PartialOrd, Ord)]
+pub enum Family {
+    /// TCP, whose names are ports of IPv4 and of IPv6.
+    Tcp,
+    /// Streams of AF_UNIX.
+    Unix,
+}
+
 /// Where the name of a socket is one.
 #[derive(Clone, Copy, Debug, PartialEq, Eq, Hash, PartialOrd, Ord)]
 pub enum Space {
@@ -80,8 +89,20 @@ pub enum Space {
 pub struct Name {
     /// Where it is a name.
     pub space: Space,
-    /// A port, or a number that stands for a name.
+    /// A port, 0 to 65,535, or a number that stands for a name.
     pub number: u32,
+}
+
+impl Name {
+    fn raw(self) -> ffi::Name {
+        let space = match self.space {
+            Space::V4 => 0,
+            Space::V6 => 1,
+            Space::Local => 2,
+        };
+        let number = self.number;
+        ffi::Name { space, number }
+    }
 }
 
 /// Which clock a timer goes by. Both are the one simulated clock.
@@ -94,6 +115,7 @@ pub enum Clock {
 }
 
 const AF_UNIX: c_int = 1;
+const AF_INET: c_int = 2;
 const SOCK_STREAM: c_int = 1;
 const EFD_SEMAPHORE: c_int = 1;
 const TFD_TIMER_ABSTIME: c_int = 1;
@@ -108,8 +130,10 @@ const CTL_MOD: c_int = 3;
 /// O_NONBLOCK.
 ///
 /// Every call of a process may also answer ESRCH (the process isn't there), EBUSY (the caller is
-/// parked in a wait) and ENOMEM. An error changes nothing but the history. `docs/calls.md` has the
-/// refusals of each call, in their order.
+/// parked in a wait) and ENOMEM. An error changes nothing but the history, with two exceptions, and
+/// both are answers of a TCP socket: EINPROGRESS of a [`connect`](Task::connect), and an error that
+/// waited there, which is taken by the call that answers it. `docs/calls.md` has the refusals of
+/// each call, in their order.
 #[derive(Clone, Copy, Debug)]
 pub struct Task<'k> {
     kernel: &'k Kernel,
@@ -193,11 +217,22 @@ impl Task<'_> {
         Ok((Fd(ends[0]), Fd(ends[1])))
     }
 
+    /// socket(2): a new socket, which has no connection and no name.
+    pub fn socket(self, family: Family, flags: Flags) -> Result<Fd, Errno> {
+        let domain = match family {
+            Family::Tcp => AF_INET,
+            Family::Unix => AF_UNIX,
+        };
+        let kind = SOCK_STREAM | flags.0;
+        // SAFETY: the kernel lives, as a task borrows it. So it does in each call below that passes
+        // numbers only.
+        descriptor(unsafe { ffi::nippersage_socket(self.raw(), domain, kind, 0) })
+    }
+
     /// eventfd(2): a new counter that starts at this value. What is read and written is 8 bytes of a
     /// `u64`; a read takes all.
     pub fn eventfd(self, initial: u32, flags: Flags) -> Result<Fd, Errno> {
-        // SAFETY: the kernel lives, as a task borrows it. So it does in each call below that passes
-        // numbers only.
+        // SAFETY: numbers only.
         descriptor(unsafe { ffi::nippersage_eventfd(self.raw(), initial, flags.0) })
     }
 
@@ -253,7 +288,8 @@ impl Task<'_> {
         descriptor(unsafe { ffi::nippersage_plain(self.raw(), flags.0) })
     }
 
-    /// read(2): how many bytes were read; 0 at the end of a stream. EBADF, EAGAIN, EINVAL.
+    /// read(2): how many bytes were read; 0 at the end of a stream. EBADF, EAGAIN, EINVAL. Of a
+    /// socket without a connection ENOTCONN (TCP), EINVAL (Unix), and the error that waits.
     pub fn read(self, fd: impl Into<Fd>, bytes: &mut [u8]) -> Result<usize, Errno> {
         // SAFETY: there is room for so many bytes.
         count(unsafe {
@@ -266,7 +302,8 @@ impl Task<'_> {
         })
     }
 
-    /// write(2): how many bytes were taken. EBADF, EAGAIN, EPIPE, EINVAL. There is no signal.
+    /// write(2): how many bytes were taken. EBADF, EAGAIN, EPIPE, EINVAL. There is no signal. Of a
+    /// socket without a connection EPIPE (TCP), ENOTCONN (Unix), and the error that waits.
     pub fn write(self, fd: impl Into<Fd>, bytes: &[u8]) -> Result<usize, Errno> {
         // SAFETY: so many bytes are there.
         count(unsafe {
@@ -292,7 +329,8 @@ impl Task<'_> {
         })
     }
 
-    /// shutdown(2) of a socket's reading, its writing, or both. EBADF, ENOTSOCK.
+    /// shutdown(2) of a socket's reading, its writing, or both. EBADF, ENOTSOCK, ENOTCONN if there
+    /// is no connection.
     pub fn shutdown(self, fd: impl Into<Fd>, how: Shutdown) -> Result<(), Errno> {
         let how = match how {
             Shutdown::Read => 0,
@@ -304,7 +342,7 @@ impl Task<'_> {
     }
 
     /// recv(2) with MSG_PEEK: how many bytes a read of a socket would give, which stay there. EBADF,
-    /// ENOTSOCK, EAGAIN.
+    /// ENOTSOCK, else the errors of [`read`](Task::read).
     pub fn peek(self, fd: impl Into<Fd>, bytes: &mut [u8]) -> Result<usize, Errno> {
         let (room, most) = (bytes.as_mut_ptr().cast(), bytes.len());
         // SAFETY: there is room for so many bytes.
@@ -312,7 +350,7 @@ impl Task<'_> {
     }
 
     /// getsockopt(2) with SO_ERROR: takes the error that waits at a socket. At an end of a socket
-    /// pair none ever does. EBADF, ENOTSOCK.
+    /// pair none ever does. A connect that failed leaves ECONNREFUSED. EBADF, ENOTSOCK.
     pub fn take_error(self, fd: impl Into<Fd>) -> Result<Option<Errno>, Errno> {
         // SAFETY: numbers only.
         let number = checked(unsafe { ffi::nippersage_take_error(self.raw(), fd.into().0) })?;
@@ -331,7 +369,8 @@ impl Task<'_> {
         named(told, name)
     }
 
-    /// getpeername(2): the name of the socket at the other end, if it has one. EBADF, ENOTSOCK.
+    /// getpeername(2): the name of the socket at the other end, if it has one. EBADF, ENOTSOCK,
+    /// ENOTCONN if there is no connection.
     pub fn getpeername(self, fd: impl Into<Fd>) -> Result<Option<Name>, Errno> {
         let mut name = ffi::Name {
             space: 0,
@@ -340,6 +379,48 @@ impl Task<'_> {
         // SAFETY: as in `getsockname`.
         let told = unsafe { ffi::nippersage_getpeername(self.raw(), fd.into().0, &mut name) };
         named(told, name)
+    }
+
+    /// bind(2): gives a socket its name, which it keeps until it dies. Number 0 asks for any: that
+    /// is the lowest from 32,768 to 60,999 that no socket has in this space, and
+    /// [`getsockname`](Task::getsockname) tells it.
+    ///
+    /// EBADF, ENOTSOCK. A TCP socket has ports, else it is EAFNOSUPPORT, and a Unix one names in
+    /// [`Space::Local`], else it is EINVAL. EINVAL if the socket has a name or a connection, or if
+    /// its connect failed. EADDRINUSE if the name is taken, or number 0 finds none free. A port
+    /// above 65,535 is EINVAL, and no event.
+    pub fn bind(self, fd: impl Into<Fd>, name: Name) -> Result<(), Errno> {
+        // SAFETY: numbers only.
+        done(unsafe { ffi::nippersage_bind(self.raw(), fd.into().0, name.raw()) })
+    }
+
+    /// connect(2). Nobody listens yet, so no connect gets through.
+    ///
+    /// That of a Unix socket is ECONNREFUSED, which changes nothing, or EINVAL for a port.
+    ///
+    /// That of a TCP socket is EINPROGRESS, and it has failed when the call returns. Then the
+    /// socket shows IN, OUT, ERR, HUP and RDHUP, and ECONNREFUSED waits there. It is taken by
+    /// [`take_error`](Task::take_error), or by a read, peek or write of a byte or more. The next
+    /// connect of any name tells that this one failed: it is ECONNREFUSED, or ECONNABORTED if the
+    /// error was taken. The one after that connects anew. Else it is EAFNOSUPPORT for a name in
+    /// [`Space::Local`], and EADDRNOTAVAIL if the socket has no name and none is free.
+    ///
+    /// Of either EBADF, ENOTSOCK. A port above 65,535 is EINVAL, and no event.
+    ///
+    /// ```
+    /// use nippersage::{Errno, Family, Flags, Kernel, Name, Space};
+    ///
+    /// let kernel = Kernel::new()?;
+    /// let task = kernel.task(0);
+    /// let client = task.socket(Family::Tcp, Flags::NONE)?;
+    /// let server = Name { space: Space::V4, number: 80 };
+    /// assert_eq!(task.connect(client, server), Err(Errno::EINPROGRESS));
+    /// assert_eq!(task.take_error(client), Ok(Some(Errno::ECONNREFUSED)));
+    /// # Ok::<(), Errno>(())
+    /// ```
+    pub fn connect(self, fd: impl Into<Fd>, name: Name) -> Result<(), Errno> {
+        // SAFETY: numbers only.
+        done(unsafe { ffi::nippersage_connect(self.raw(), fd.into().0, name.raw()) })
     }
 
     /// dup(2): the lowest free number, for the same file. EBADF, EMFILE.

@@ -1,7 +1,8 @@
 //! Each call once as it is meant to be, and once refused. Answers are those of the manual pages and of docs/calls.md.
 
 use nippersage::{
-    Clock, Errno, Event, Events, Fd, Flags, Kernel, Limits, Pid, Setting, Waiter, Watch,
+    Clock, Errno, Event, Events, Family, Fd, Flags, Kernel, Limits, Name, Pid, Setting, Space,
+    Task, Waiter, Watch,
 };
 use std::io::{self, IoSlice, IoSliceMut, Write};
 use std::net::Shutdown;
@@ -130,6 +131,211 @@ fn what_a_socket_alone_is_asked() {
     }
     assert_eq!(Errno::ECONNRESET.number(), 104);
     assert_eq!(Errno::EALREADY.name(), "EALREADY");
+}
+
+const fn port(number: u32) -> Name {
+    Name {
+        space: Space::V4,
+        number,
+    }
+}
+
+const fn port_of_v6(number: u32) -> Name {
+    Name {
+        space: Space::V6,
+        number,
+    }
+}
+
+const fn local(number: u32) -> Name {
+    Name {
+        space: Space::Local,
+        number,
+    }
+}
+
+fn lines_of(kernel: &Kernel) -> Vec<u8> {
+    let mut lines = Vec::new();
+    kernel.history(&mut lines).unwrap();
+    lines
+}
+
+/// The bits that a socket shows.
+fn shown_at(task: Task, fd: Fd) -> Events {
+    let instance = task.own(task.epoll_create1(Flags::NONE).unwrap());
+    let asked = Events::IN | Events::OUT | Events::RDHUP;
+    task.epoll_add(instance.fd(), fd, asked, 0).unwrap();
+    let mut events = [Event::default()];
+    assert_eq!(
+        task.epoll_wait(instance.fd(), &mut events, Some(Duration::ZERO)),
+        Ok(1)
+    );
+    events[0].events()
+}
+
+#[test]
+fn sockets_without_a_connection() {
+    let kernel = Kernel::new().unwrap();
+    let task = kernel.task(0);
+    let tcp = task
+        .socket(Family::Tcp, Flags::CLOEXEC | Flags::NONBLOCK)
+        .unwrap();
+    let unix = task.socket(Family::Unix, Flags::NONE).unwrap();
+    assert_eq!((tcp, unix), (Fd(3), Fd(4)));
+    let mut bytes = [0; 8];
+    for (fd, read, write) in [
+        (tcp, Errno::ENOTCONN, Errno::EPIPE),
+        (unix, Errno::EINVAL, Errno::ENOTCONN),
+    ] {
+        assert_eq!(task.read(fd, &mut bytes), Err(read));
+        assert_eq!(task.peek(fd, &mut bytes), Err(read));
+        assert_eq!(task.write(fd, b"a"), Err(write));
+        assert_eq!(task.read(fd, &mut []), Ok(0));
+        assert_eq!(task.write(fd, b""), Ok(0));
+        assert_eq!(task.shutdown(fd, Shutdown::Both), Err(Errno::ENOTCONN));
+        assert_eq!(task.take_error(fd), Ok(None));
+        assert_eq!(task.getsockname(fd), Ok(None));
+        assert_eq!(task.getpeername(fd), Err(Errno::ENOTCONN));
+        assert_eq!(shown_at(task, fd), Events::OUT | Events::HUP);
+    }
+    task.execve().unwrap();
+    assert_eq!(task.close(tcp), Err(Errno::EBADF));
+    task.close(unix).unwrap();
+}
+
+#[test]
+fn too_many_sockets() {
+    let few = Limits {
+        descriptors: 4,
+        ..Limits::default()
+    };
+    let no_files = Limits {
+        files: 2,
+        ..Limits::default()
+    };
+    for (limits, errno) in [(few, Errno::EMFILE), (no_files, Errno::ENFILE)] {
+        let kernel = Kernel::with_limits(&limits).unwrap();
+        let task = kernel.task(0);
+        assert_eq!(task.socket(Family::Unix, Flags::NONE), Ok(Fd(3)));
+        assert_eq!(task.socket(Family::Tcp, Flags::NONE), Err(errno));
+    }
+}
+
+#[test]
+fn names_that_are_given() {
+    let kernel = Kernel::new().unwrap();
+    let task = kernel.task(0);
+    let first = task.socket(Family::Tcp, Flags::NONE).unwrap();
+    let second = task.socket(Family::Tcp, Flags::NONE).unwrap();
+    let unix = task.socket(Family::Unix, Flags::NONE).unwrap();
+    let (left, _) = task.socketpair(Flags::NONE).unwrap();
+    assert_eq!(task.bind(first, local(80)), Err(Errno::EAFNOSUPPORT));
+    assert_eq!(task.bind(first, port(80)), Ok(()));
+    assert_eq!(task.getsockname(first), Ok(Some(port(80))));
+    assert_eq!(task.bind(first, port(81)), Err(Errno::EINVAL));
+    assert_eq!(task.bind(second, port(80)), Err(Errno::EADDRINUSE));
+    assert_eq!(task.bind(second, port_of_v6(80)), Ok(()));
+    assert_eq!(task.getsockname(second), Ok(Some(port_of_v6(80))));
+    assert_eq!(task.bind(unix, port(0)), Err(Errno::EINVAL));
+    assert_eq!(task.bind(unix, local(0)), Ok(()));
+    assert_eq!(task.getsockname(unix), Ok(Some(local(32_768))));
+    assert_eq!(task.bind(left, local(9)), Err(Errno::EINVAL));
+    assert_eq!(task.bind(0, port(9)), Err(Errno::ENOTSOCK));
+    assert_eq!(task.bind(77, port(9)), Err(Errno::EBADF));
+    task.close(first).unwrap();
+    let third = task.socket(Family::Tcp, Flags::NONE).unwrap();
+    assert_eq!(task.bind(third, port(80)), Ok(()));
+}
+
+#[test]
+fn what_is_no_port() {
+    let kernel = Kernel::new().unwrap();
+    let task = kernel.task(0);
+    let first = task.socket(Family::Tcp, Flags::NONE).unwrap();
+    let second = task.socket(Family::Tcp, Flags::NONE).unwrap();
+    let unix = task.socket(Family::Unix, Flags::NONE).unwrap();
+    let before = lines_of(&kernel);
+    for name in [port(65_536), port_of_v6(65_536), port(u32::MAX)] {
+        assert_eq!(task.bind(first, name), Err(Errno::EINVAL));
+        assert_eq!(task.connect(first, name), Err(Errno::EINVAL));
+    }
+    assert_eq!(lines_of(&kernel), before);
+    assert_eq!(task.bind(first, port(65_535)), Ok(()));
+    assert_eq!(task.bind(second, port_of_v6(65_535)), Ok(()));
+    assert_eq!(task.bind(unix, local(u32::MAX)), Ok(()));
+    assert_eq!(task.getsockname(unix), Ok(Some(local(u32::MAX))));
+}
+
+#[test]
+fn connects_that_find_nobody() {
+    let kernel = Kernel::new().unwrap();
+    let task = kernel.task(0);
+    let fd = task.socket(Family::Tcp, Flags::NONE).unwrap();
+    let connects = Err(Errno::EINPROGRESS);
+    let left = Events::IN | Events::OUT | Events::HUP | Events::RDHUP;
+    let mut bytes = [0; 8];
+    assert_eq!(task.connect(fd, local(80)), Err(Errno::EAFNOSUPPORT));
+    assert_eq!(task.connect(fd, port(80)), connects);
+    assert_eq!(task.getsockname(fd), Ok(Some(port(32_768))));
+    assert_eq!(shown_at(task, fd), left | Events::ERR);
+    assert_eq!(task.take_error(fd), Ok(Some(Errno::new(111))));
+    assert_eq!(task.take_error(fd), Ok(None));
+    assert_eq!(shown_at(task, fd), left);
+    assert_eq!(task.read(fd, &mut bytes), Ok(0));
+    assert_eq!(task.write(fd, b"a"), Err(Errno::EPIPE));
+    assert_eq!(task.bind(fd, port(9)), Err(Errno::EINVAL));
+    assert_eq!(task.connect(fd, local(1)), Err(Errno::ECONNABORTED));
+    assert_eq!(shown_at(task, fd), Events::OUT | Events::HUP);
+    assert_eq!(task.connect(fd, port(80)), connects);
+    assert_eq!(task.connect(fd, port(80)), Err(Errno::ECONNREFUSED));
+    assert_eq!(task.connect(fd, port(80)), connects);
+    assert_eq!(task.read(fd, &mut bytes), Err(Errno::ECONNREFUSED));
+    assert_eq!(task.connect(fd, port(80)), Err(Errno::ECONNABORTED));
+    assert_eq!(task.connect(fd, port_of_v6(80)), connects);
+    assert_eq!(task.write(fd, b"a"), Err(Errno::ECONNREFUSED));
+    assert_eq!(task.write(fd, b"a"), Err(Errno::EPIPE));
+    let told = io::Error::from(Errno::EINPROGRESS);
+    assert_eq!(
+        (told.raw_os_error(), Errno::EINPROGRESS.name()),
+        (Some(115), "EINPROGRESS")
+    );
+}
+
+#[test]
+fn connects_of_unix_sockets() {
+    let kernel = Kernel::new().unwrap();
+    let task = kernel.task(0);
+    let fd = task.socket(Family::Unix, Flags::NONE).unwrap();
+    let (left, _) = task.socketpair(Flags::NONE).unwrap();
+    task.bind(fd, local(7)).unwrap();
+    assert_eq!(task.connect(fd, local(7)), Err(Errno::ECONNREFUSED));
+    assert_eq!(task.connect(fd, local(8)), Err(Errno::ECONNREFUSED));
+    assert_eq!(task.connect(fd, port(7)), Err(Errno::EINVAL));
+    assert_eq!(task.take_error(fd), Ok(None));
+    assert_eq!(shown_at(task, fd), Events::OUT | Events::HUP);
+    assert_eq!(task.connect(left, local(7)), Err(Errno::ECONNREFUSED));
+    assert_eq!(task.connect(left, port_of_v6(7)), Err(Errno::EINVAL));
+    assert_eq!(task.connect(0, local(7)), Err(Errno::ENOTSOCK));
+    assert_eq!(task.connect(77, local(7)), Err(Errno::EBADF));
+}
+
+#[test]
+fn no_name_is_free() {
+    let limits = Limits {
+        descriptors: 65_536,
+        files: 1_000_000,
+        ..Limits::default()
+    };
+    let kernel = Kernel::with_limits(&limits).unwrap();
+    let task = kernel.task(0);
+    for number in 32_768..61_000 {
+        let fd = task.socket(Family::Tcp, Flags::NONE).unwrap();
+        task.bind(fd, port(number)).unwrap();
+    }
+    let last = task.socket(Family::Tcp, Flags::NONE).unwrap();
+    assert_eq!(task.connect(last, port(80)), Err(Errno::EADDRNOTAVAIL));
+    assert_eq!(task.bind(last, port(0)), Err(Errno::EADDRINUSE));
+    assert_eq!(task.connect(last, port_of_v6(80)), Err(Errno::EINPROGRESS));
 }
 
 #[test]
