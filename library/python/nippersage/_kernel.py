@@ -8,8 +8,8 @@ from typing import Any, Callable, List, Optional, Sequence, Tuple, Type, Union
 
 from . import _library
 from ._library import Library
-from ._numbers import HOWS, Name, Report, Time, Waiter, Watch
-from ._numbers import long, masked, number, octets, one_of, seconds, units, unsigned, within
+from ._numbers import FAMILIES, HOWS, Name, Report, Time, Waiter, Watch
+from ._numbers import long, masked, name_of, number, octets, one_of, seconds, units, unsigned, within
 from ._program import Program
 
 _ADD, _DEL, _MOD = 1, 2, 3
@@ -24,7 +24,8 @@ class Task:
     """Who calls: the caller `by` in the process `pid`. Each method is one system call, and one record of the history.
 
     A method may be told another caller or process for one call. A refusal is an OSError with Linux's number, and
-    changes nothing but the history. Each file behaves as with O_NONBLOCK. A number out of its range is a ValueError,
+    changes nothing but the history. An OSError is also what `connect` gives that connects, and an error that waited at
+    a socket, which is taken by that. Each file behaves as with O_NONBLOCK. A number out of its range is a ValueError,
     and makes no call. A time is a number of seconds or a timedelta, and what is finer than a microsecond is rounded up.
     """
 
@@ -53,6 +54,12 @@ class Task:
     ) -> Tuple[int, int]:
         """The two ends of a new pair of Unix stream sockets."""
         return self._backend.socketpair(self._who(by, pid), bool(cloexec))
+
+    def socket(
+        self, family: str, cloexec: bool = False, *, by: Optional[int] = None, pid: Optional[int] = None,
+    ) -> int:
+        """A new socket, of "tcp" or "unix", which has no connection and no name."""
+        return self._backend.socket(self._who(by, pid), one_of("family", family, FAMILIES), bool(cloexec))
 
     def eventfd(
         self, init: int = 0, semaphore: bool = False, cloexec: bool = False,
@@ -161,8 +168,34 @@ class Task:
         return self._backend.sockname(self._who(by, pid), number("fd", fd))
 
     def peername(self, fd: int, *, by: Optional[int] = None, pid: Optional[int] = None) -> Optional[Name]:
-        """The name of the socket at the other end. None if that has none."""
+        """The name of the socket at the other end. None if that has none. ENOTCONN if there is no connection."""
         return self._backend.peername(self._who(by, pid), number("fd", fd))
+
+    def bind(
+        self, fd: int, name: Tuple[str, int], *, by: Optional[int] = None, pid: Optional[int] = None,
+    ) -> None:
+        """Gives a socket its name, (space, number), as `sockname` tells it. It keeps that until it dies.
+
+        Number 0 asks for any: the lowest from 32,768 to 60,999 that no socket has in this space. A socket of TCP has
+        names in "v4" and "v6", else it is EAFNOSUPPORT, and one of Unix in "local", else it is EINVAL. EINVAL if it has
+        a name or a connection, or if its connect failed. EADDRINUSE if the name is taken, or number 0 finds none free.
+        """
+        self._backend.bind(self._who(by, pid), number("fd", fd), name_of(name))
+
+    def connect(
+        self, fd: int, name: Tuple[str, int], *, by: Optional[int] = None, pid: Optional[int] = None,
+    ) -> None:
+        """Connects a socket to this name. Nobody listens yet, so no connect gets through.
+
+        That of Unix is ECONNREFUSED, which changes nothing, or EINVAL for a name in "v4" or "v6".
+
+        That of TCP is EINPROGRESS, a BlockingIOError, and it has failed when the call returns. Then the socket shows
+        IN, OUT, ERR, HUP and RDHUP, and ECONNREFUSED waits there. It is taken by `take_error`, or by a read, peek or
+        write of a byte or more. The next connect of any name tells that this one failed: it is ECONNREFUSED, or
+        ECONNABORTED if the error was taken. The one after that connects anew. Else it is EAFNOSUPPORT for a name in
+        "local", and EADDRNOTAVAIL if the socket has no name and none is free.
+        """
+        self._backend.connect(self._who(by, pid), number("fd", fd), name_of(name))
 
     def settime(
         self, fd: int, value: Time, interval: Time = 0, absolute: bool = False,

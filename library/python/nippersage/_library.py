@@ -11,7 +11,8 @@ from ctypes import (
 )
 from typing import IO, Any, Callable, Dict, List, Optional, Sequence, Tuple
 
-from ._numbers import HOWS, SPACES, UNITS, Ended, Limits, Name, Waiter, Watch, limits_of, refusal, seconds, watch_of
+from ._numbers import FAMILIES, HOWS, SPACES, UNITS, Ended, Limits, Name, Waiter, Watch
+from ._numbers import limits_of, refusal, seconds, watch_of
 
 _HERE = os.path.dirname(os.path.abspath(__file__))
 
@@ -118,6 +119,9 @@ _TAKEN: Dict[str, Tuple[Any, ...]] = {
     "take_error": (Who, c_int),
     "getsockname": (Who, c_int, POINTER(_Name)),
     "getpeername": (Who, c_int, POINTER(_Name)),
+    "socket": (Who, c_int, c_int, c_int),
+    "bind": (Who, c_int, _Name),
+    "connect": (Who, c_int, _Name),
     "dup": (Who, c_int),
     "dup2": (Who, c_int, c_int),
     "close": (Who, c_int),
@@ -256,6 +260,10 @@ class Library:
         self._done(self._f.socketpair(who, _AF_UNIX, kind, 0, ends))
         return ends[0], ends[1]
 
+    def socket(self, who: Who, family: str, cloexec: bool) -> int:
+        kind = _SOCK_STREAM | (_CLOEXEC if cloexec else 0)
+        return self._done(self._f.socket(who, FAMILIES[family], kind, 0))
+
     def eventfd(self, who: Who, init: int, semaphore: bool, cloexec: bool) -> int:
         flags = (_SEMAPHORE if semaphore else 0) | (_CLOEXEC if cloexec else 0)
         return self._done(self._f.eventfd(who, init, flags))
@@ -327,6 +335,12 @@ class Library:
 
     def peername(self, who: Who, fd: int) -> Optional[Name]:
         return self._name(self._f.getpeername, who, fd)
+
+    def bind(self, who: Who, fd: int, name: Name) -> None:
+        self._done(self._f.bind(who, fd, _name(name)))
+
+    def connect(self, who: Who, fd: int, name: Name) -> None:
+        self._done(self._f.connect(who, fd, _name(name)))
 
     def _name(self, ask: Callable[..., int], who: Who, fd: int) -> Optional[Name]:
         name = _Name()
@@ -438,6 +452,10 @@ class Library:
 def _room(size: int) -> Any:
     """Room for so many bytes, and for one if there are none, since NULL is refused."""
     return (c_char * (size if size > 0 else 1))()
+
+
+def _name(name: Name) -> _Name:
+    return _Name(SPACES.index(name.space), name.number)
 
 
 def _waiter(found: _Waiter) -> Waiter:

@@ -59,13 +59,16 @@ _LONGEST = (1 << 63) // UNITS
 #: What shutdown(2) shuts, as Linux numbers it.
 HOWS = {"rd": 0, "wr": 1, "rdwr": 2}
 
+#: What a socket of socket(2) speaks, and Linux's number of it.
+FAMILIES = {"tcp": 2, "unix": 1}
+
 #: The names of the error numbers of Linux that a call may answer.
 NAMES = {
     1: "EPERM", 2: "ENOENT", 3: "ESRCH", 9: "EBADF", 11: "EAGAIN", 12: "ENOMEM", 14: "EFAULT",
     16: "EBUSY", 17: "EEXIST", 22: "EINVAL", 23: "ENFILE", 24: "EMFILE", 28: "ENOSPC", 32: "EPIPE",
     35: "EDEADLK", 40: "ELOOP", 74: "EBADMSG", 88: "ENOTSOCK", 90: "EMSGSIZE", 97: "EAFNOSUPPORT",
     98: "EADDRINUSE", 99: "EADDRNOTAVAIL", 103: "ECONNABORTED", 104: "ECONNRESET", 106: "EISCONN",
-    107: "ENOTCONN", 111: "ECONNREFUSED", 114: "EALREADY",
+    107: "ENOTCONN", 111: "ECONNREFUSED", 114: "EALREADY", 115: "EINPROGRESS",
 }
 
 
@@ -121,6 +124,7 @@ class Name(NamedTuple):
 
 #: The spaces of names, as the library numbers them.
 SPACES = ("v4", "v6", "local")
+_MOST_PORT = 65_535
 
 
 class Waiter(NamedTuple):
@@ -172,7 +176,7 @@ def watch_of(
 
 
 def refusal(number: int) -> OSError:
-    """The error of a number of Linux: as BlockingIOError for EAGAIN, as OSError if there is no class of its own."""
+    """The error of a number of Linux: as BlockingIOError for EAGAIN and EINPROGRESS, or OSError if it has no class."""
     return OSError(number, NAMES.get(number, f"error number {number}"))
 
 
@@ -215,6 +219,16 @@ def one_of(name: str, value: str, words: Iterable[str]) -> str:
     if value not in words:
         raise ValueError(f"{name} is one of {', '.join(map(repr, words))}, and not {value!r}")
     return value
+
+
+def name_of(value: Tuple[str, int]) -> Name:
+    """The name of a socket, which has to be a space and a number that is one there."""
+    try:
+        space, count = value
+    except (TypeError, ValueError):
+        raise TypeError(f"name is a space and a number, as ('v4', 80), and not {value!r}") from None
+    one_of("space", space, SPACES)
+    return Name(space, unsigned("number", count) if space == "local" else within("number", count, 0, _MOST_PORT))
 
 
 def octets(name: str, value: bytes) -> bytes:

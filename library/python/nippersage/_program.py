@@ -7,9 +7,10 @@ import os
 import re
 import shutil
 import subprocess
+from errno import EINPROGRESS
 from typing import Any, Dict, List, Optional, Sequence, Tuple
 
-from ._numbers import Ended, Illegal, Name, limits_of
+from ._numbers import Ended, Illegal, Name, limits_of, refusal
 
 #: The first line of a run, which is its own answer: the times of the others are in microseconds.
 _HEADER = b'{"version":2}\n'
@@ -137,8 +138,9 @@ class Program:
 
     def _call(self, op: str, who: Who, **keys: Any) -> Dict[str, Any]:
         answer = self.ask(op, {**keys, **who})
-        if "err" in answer:
-            raise OSError(*answer["err"])
+        for refused in ("err", "failed"):
+            if refused in answer:
+                raise OSError(*answer[refused])
         if "bad" in answer:
             raise ValueError(f"{op} takes no such values: {keys}")
         return answer
@@ -150,6 +152,9 @@ class Program:
     def socketpair(self, who: Who, cloexec: bool) -> Tuple[int, int]:
         first, second = self._call("socketpair", who, cloexec=cloexec)["two"]
         return first, second
+
+    def socket(self, who: Who, family: str, cloexec: bool) -> int:
+        return self._call("socket", who, family=family, cloexec=cloexec)["num"]
 
     def eventfd(self, who: Who, init: int, semaphore: bool, cloexec: bool) -> int:
         return self._call("eventfd", who, init=init, sem=semaphore, cloexec=cloexec)["num"]
@@ -199,6 +204,13 @@ class Program:
 
     def peername(self, who: Who, fd: int) -> Optional[Name]:
         return self._name(self._call("peername", who, fd=fd))
+
+    def bind(self, who: Who, fd: int, name: Name) -> None:
+        self._call("bind", who, fd=fd, space=name.space, name=name.number)
+
+    def connect(self, who: Who, fd: int, name: Name) -> None:
+        if "connecting" in self._call("connect", who, fd=fd, space=name.space, name=name.number):
+            raise refusal(EINPROGRESS)
 
     @staticmethod
     def _name(answer: Dict[str, Any]) -> Optional[Name]:

@@ -23,8 +23,8 @@ FOLDER = os.path.dirname(os.path.dirname(os.path.abspath(__file__)))
 sys.path.insert(0, FOLDER)
 
 from nippersage import (
-    AUDITOR, ET, EXCLUSIVE, HUP, IN, LIBRARY, MOST_CALLS, ONESHOT, OUT, PROGRAM, Ended, Illegal, Kernel, Limits,
-    Mask, Watch, __version__, audit, library_version,
+    AUDITOR, ERR, ET, EXCLUSIVE, HUP, IN, LIBRARY, MOST_CALLS, ONESHOT, OUT, PROGRAM, RDHUP, Ended, Illegal, Kernel,
+    Limits, Mask, Name, Watch, __version__, audit, library_version,
 )
 from nippersage._numbers import seconds, units
 
@@ -111,6 +111,120 @@ class Calls:
             for ask in (lambda fd: kernel.peek(fd, 1), kernel.take_error, kernel.sockname, kernel.peername):
                 self.expect_refusal(errno.ENOTSOCK, ask, 0)
                 self.expect_refusal(errno.EBADF, ask, left)
+
+    def shown_at(self, kernel, fd):
+        """The bits that a socket shows."""
+        instance = kernel.epoll()
+        kernel.add(instance, fd, IN | OUT | RDHUP)
+        ((mask, _),) = kernel.wait(instance)
+        kernel.close(instance)
+        return mask
+
+    def test_sockets_without_a_connection(self):
+        with self.make() as kernel:
+            tcp, unix = kernel.socket("tcp", cloexec=True), kernel.socket("unix")
+            self.assertEqual((tcp, unix), (3, 4))
+            for fd, read, write in ((tcp, errno.ENOTCONN, errno.EPIPE), (unix, errno.EINVAL, errno.ENOTCONN)):
+                self.expect_refusal(read, kernel.read, fd, 8)
+                self.expect_refusal(read, kernel.peek, fd, 8)
+                self.expect_refusal(write, kernel.write, fd, b"a")
+                self.assertEqual((kernel.read(fd, 0), kernel.write(fd, b"")), (b"", 0))
+                self.expect_refusal(errno.ENOTCONN, kernel.shutdown, fd, "rdwr")
+                self.assertEqual((kernel.take_error(fd), kernel.sockname(fd)), (0, None))
+                self.expect_refusal(errno.ENOTCONN, kernel.peername, fd)
+                self.assertEqual(self.shown_at(kernel, fd), OUT | HUP)
+            kernel.exec()
+            self.expect_refusal(errno.EBADF, kernel.close, tcp)
+            kernel.close(unix)
+
+    def test_too_many_sockets(self):
+        for limits, number in ((Limits(descriptors=4), errno.EMFILE), (Limits(files=2), errno.ENFILE)):
+            with self.make(limits=limits) as kernel:
+                self.assertEqual(kernel.socket("unix"), 3)
+                self.expect_refusal(number, kernel.socket, "tcp")
+
+    def test_names_that_are_given(self):
+        with self.make() as kernel:
+            first, second, unix = kernel.socket("tcp"), kernel.socket("tcp"), kernel.socket("unix")
+            left, _ = kernel.socketpair()
+            self.expect_refusal(errno.EAFNOSUPPORT, kernel.bind, first, ("local", 80))
+            kernel.bind(first, ("v4", 80))
+            self.assertEqual(kernel.sockname(first), Name("v4", 80))
+            self.expect_refusal(errno.EINVAL, kernel.bind, first, ("v4", 81))
+            self.expect_refusal(errno.EADDRINUSE, kernel.bind, second, Name("v4", 80))
+            kernel.bind(second, Name("v6", 80))
+            self.assertEqual(kernel.sockname(second), ("v6", 80))
+            self.expect_refusal(errno.EINVAL, kernel.bind, unix, ("v4", 0))
+            kernel.bind(unix, ("local", 0))
+            self.assertEqual(kernel.sockname(unix), ("local", 32_768))
+            self.expect_refusal(errno.EINVAL, kernel.bind, left, ("local", 9))
+            self.expect_refusal(errno.ENOTSOCK, kernel.bind, 0, ("v4", 9))
+            self.expect_refusal(errno.EBADF, kernel.bind, 77, ("v4", 9))
+            kernel.close(first)
+            kernel.bind(kernel.socket("tcp"), ("v4", 80))
+
+    def test_the_last_names(self):
+        with self.make() as kernel:
+            for fd, name in ((kernel.socket("tcp"), ("v4", 65_535)), (kernel.socket("tcp"), ("v6", 65_535)),
+                             (kernel.socket("unix"), ("local", 4_294_967_295))):
+                kernel.bind(fd, name)
+                self.assertEqual(kernel.sockname(fd), name)
+
+    def test_connects_that_find_nobody(self):
+        left = IN | OUT | HUP | RDHUP
+        with self.make() as kernel:
+            fd = kernel.socket("tcp")
+            self.expect_refusal(errno.EAFNOSUPPORT, kernel.connect, fd, ("local", 80))
+            with self.assertRaises(BlockingIOError) as caught:
+                kernel.connect(fd, ("v4", 80))
+            self.assertEqual((caught.exception.errno, str(caught.exception)), (115, "[Errno 115] EINPROGRESS"))
+            self.assertEqual(kernel.sockname(fd), ("v4", 32_768))
+            self.assertEqual(self.shown_at(kernel, fd), left | ERR)
+            self.assertEqual((kernel.take_error(fd), kernel.take_error(fd)), (111, 0))
+            self.assertEqual(self.shown_at(kernel, fd), left)
+            self.assertEqual(kernel.read(fd, 8), b"")
+            self.expect_refusal(errno.EPIPE, kernel.write, fd, b"a")
+            self.expect_refusal(errno.EINVAL, kernel.bind, fd, ("v4", 9))
+            self.expect_refusal(errno.ECONNABORTED, kernel.connect, fd, ("local", 1))
+            self.assertEqual(self.shown_at(kernel, fd), OUT | HUP)
+            self.expect_refusal(errno.EINPROGRESS, kernel.connect, fd, ("v4", 80))
+            with self.assertRaises(ConnectionRefusedError):
+                kernel.connect(fd, ("v4", 80))
+
+    def test_calls_that_take_an_error(self):
+        """The first tells it, and the next connect that it was taken."""
+        with self.make() as kernel:
+            fd = kernel.socket("tcp")
+            takers = (kernel.read, (8,)), (kernel.peek, (8,)), (kernel.write, (b"a",)), (kernel.fill, (97, 2))
+            for call, words in takers:
+                self.expect_refusal(errno.EINPROGRESS, kernel.connect, fd, ("v6", 80))
+                self.assertEqual((kernel.read(fd, 0), kernel.write(fd, b"")), (b"", 0))
+                self.expect_refusal(errno.ECONNREFUSED, call, fd, *words)
+                self.assertEqual(kernel.take_error(fd), 0)
+                self.expect_refusal(errno.ECONNABORTED, kernel.connect, fd, ("v6", 80))
+
+    def test_connects_of_unix_sockets(self):
+        with self.make() as kernel:
+            fd, (left, _) = kernel.socket("unix"), kernel.socketpair()
+            kernel.bind(fd, ("local", 7))
+            self.expect_refusal(errno.ECONNREFUSED, kernel.connect, fd, ("local", 7))
+            self.expect_refusal(errno.ECONNREFUSED, kernel.connect, fd, ("local", 8))
+            self.expect_refusal(errno.EINVAL, kernel.connect, fd, ("v4", 7))
+            self.assertEqual(kernel.take_error(fd), 0)
+            self.assertEqual(self.shown_at(kernel, fd), OUT | HUP)
+            self.expect_refusal(errno.ECONNREFUSED, kernel.connect, left, ("local", 7))
+            self.expect_refusal(errno.EINVAL, kernel.connect, left, ("v6", 7))
+            self.expect_refusal(errno.ENOTSOCK, kernel.connect, 0, ("local", 7))
+            self.expect_refusal(errno.EBADF, kernel.connect, 77, ("local", 7))
+
+    def test_no_name_is_free(self):
+        with self.make(limits=Limits(descriptors=65_536, files=1_000_000)) as kernel:
+            for number in range(32_768, 61_000):
+                kernel.bind(kernel.socket("tcp"), ("v4", number))
+            last = kernel.socket("tcp")
+            self.expect_refusal(errno.EADDRNOTAVAIL, kernel.connect, last, ("v4", 80))
+            self.expect_refusal(errno.EADDRINUSE, kernel.bind, last, ("v4", 0))
+            self.expect_refusal(errno.EINPROGRESS, kernel.connect, last, ("v6", 80))
 
     def test_counters(self):
         with self.make() as kernel:
@@ -277,6 +391,9 @@ class Calls:
                 (kernel.wait, (3, 8, float("nan"))),
                 (kernel.wait, (3, 8, timedelta.max)),
                 (kernel.task, (-1,)),
+                (kernel.socket, ("inet",)),
+                (kernel.bind, (0, ("v5", 80))),
+                (kernel.connect, (0, ("v4", -1))),
             ):
                 with self.assertRaises(ValueError):
                     call(*words)
@@ -301,6 +418,14 @@ class Calls:
                 (kernel.write, (1, 5), "data"),
                 (kernel.settime, (3, 1, -1), "interval"),
                 (kernel.task, ("1",), "by"),
+                (kernel.socket, ("udp",), "family"),
+                (kernel.bind, (0, 80), "name"),
+                (kernel.bind, (0, ("v4", 80, 1)), "name"),
+                (kernel.bind, (0, ("v4", 65_536)), "number"),
+                (kernel.bind, (0, ("v6", "80")), "number"),
+                (kernel.connect, (0, ("unix", 1)), "space"),
+                (kernel.connect, (0, ("local", 1 << 32)), "number"),
+                (kernel.connect, ("3", ("local", 1)), "fd"),
             ):
                 with self.assertRaises((TypeError, ValueError)) as caught:
                     call(*words)
@@ -535,7 +660,7 @@ class Readme(unittest.TestCase):
     def test_its_programs(self):
         with open(os.path.join(FOLDER, "README.md")) as page:
             programs = re.findall(r"^```python\n(.*?)^```$", page.read(), re.M | re.S)
-        self.assertEqual(len(programs), 5)
+        self.assertEqual(len(programs), 6)
         for program in programs:
             told = run_anew(program)
             self.assertEqual((told.returncode, told.stderr), (0, b""))

@@ -15,7 +15,7 @@ import tempfile
 import unittest
 
 from faults import FAULTS, ONE, pipe_example, pool_example, reads_once
-from nippersage import ET, EXCLUSIVE, IN, LIBRARY, ONESHOT, OUT, RDHUP, Limits
+from nippersage import ET, EXCLUSIVE, IN, LIBRARY, ONESHOT, OUT, RDHUP, Limits, Name
 from nippersage.orders import VARIABLE, BadSchedule, BadTask, Env, Failed, explore
 
 HERE = os.path.dirname(os.path.abspath(__file__))
@@ -94,6 +94,52 @@ class Messages(unittest.TestCase):
             ["mod(7, 3, 0, 0)", "ENOENT"],
         ])
         self.assertEqual(failure.why, "task raised FileNotFoundError: [Errno 2] ENOENT")
+
+    def test_calls_of_sockets_without_a_connection(self):
+        def task(t, e):
+            tcp, unix = t.socket("tcp", cloexec=True), t.socket("unix")
+            t.bind(tcp, ("v6", 80))
+            t.bind(unix, Name("local", 0))
+            t.sockname(unix)
+            for fd, name in ((unix, ("local", 32_768)), (tcp, ("v6", 80))):
+                try:
+                    t.connect(fd, name)
+                except OSError:
+                    pass
+            t.take_error(tcp)
+            t.add(t.epoll(), tcp, IN)
+            t.connect(tcp, ("v6", 80))
+
+        failure = failure_of(lambda kernel: None, {"task": task})
+        table = [re.split("  +", line.strip())[-2:] for line in lines_of(failure)[3:-2]]
+        self.assertEqual(table, [
+            ["socket('tcp', cloexec=True)", "3"], ["socket('unix')", "4"], ["task", "bind(3, ('v6', 80))"],
+            ["task", "bind(4, ('local', 0))"], ["sockname(4)", "(local, 32768)"],
+            ["connect(4, ('local', 32768))", "ECONNREFUSED"], ["connect(3, ('v6', 80))", "EINPROGRESS"],
+            ["take_error(3)", "111"], ["epoll()", "5"], ["task", "add(5, 3, IN, 0)"],
+            ["connect(3, ('v6', 80))", "ECONNABORTED"],
+        ])
+        self.assertEqual(failure.why, "task raised ConnectionAbortedError: [Errno 103] ECONNABORTED")
+
+    def test_a_loop_asleep_beside_a_socket(self):
+        """A connect that finds nobody leaves all five bits, and the loop reads nothing."""
+
+        def setup(kernel):
+            fd, instance = kernel.socket("tcp"), kernel.epoll()
+            kernel.add(instance, fd, IN | ET)
+            return Env(fd=fd, instance=instance)
+
+        def loop(t, e):
+            while True:
+                t.wait(e.instance, timeout=None)
+
+        def peer(t, e):
+            with self.assertRaises(BlockingIOError):
+                t.connect(e.fd, ("v4", 80))
+
+        failure = failure_of(setup, {"loop": loop, "peer": peer}, daemons=["loop"])
+        self.assertEqual(failure.kind, "asleep beside data")
+        self.assertIn("loop at 4: fd 3 shows IN|OUT|ERR|HUP|RDHUP, registered IN|ET, reported", lines_of(failure)[0])
 
     def test_a_long_order(self):
         def task(t, e):

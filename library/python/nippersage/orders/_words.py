@@ -48,6 +48,7 @@ def _settime(fd: int, value: int, interval: int, absolute: bool) -> str:
 _TOLD: Dict[str, Callable[..., str]] = {
     "pipe": lambda cloexec: f"pipe({_flags(('cloexec', cloexec))[2:]})",
     "socketpair": lambda cloexec: f"socketpair({_flags(('cloexec', cloexec))[2:]})",
+    "socket": lambda family, cloexec: f"socket({family!r}{_flags(('cloexec', cloexec))})",
     "eventfd": lambda init, sem, cloexec: f"eventfd({init}{_flags(('semaphore', sem), ('cloexec', cloexec))})",
     "timerfd": lambda clock, cloexec: f"timerfd({_flags(('cloexec', cloexec))[2:]})",
     "plain": lambda cloexec: f"plain({_flags(('cloexec', cloexec))[2:]})",
@@ -55,6 +56,8 @@ _TOLD: Dict[str, Callable[..., str]] = {
     "ctl": _ctl,
     "wait": lambda ep, most, timeout: f"wait({ep}, {most}, {time_text(timeout)})",
     "write": lambda fd, data: f"write({fd}, {bytes_text(data)})",
+    "bind": lambda fd, name: f"bind({fd}, {tuple(name)})",
+    "connect": lambda fd, name: f"connect({fd}, {tuple(name)})",
     "shutdown": lambda fd, how: f"shutdown({fd})" if how == "wr" else f"shutdown({fd}, {how!r})",
     "settime": _settime,
     "tick": lambda count: f"tick({time_text(count)})",
