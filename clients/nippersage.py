@@ -15,6 +15,7 @@ microsecond, is rounded up. `Kernel(history=PATH)` writes down what happens, and
 it checked. docs/calls.md says what each call answers and refuses; docs/clients.md what is promised.
 """
 
+import errno
 import json
 import math
 import os
@@ -42,6 +43,8 @@ _RANGES = {
     **dict.fromkeys(("by", "init", "mask"), _UINT),
     **dict.fromkeys(("pid", "data", "value", "interval"), _ULONG),
 }
+#: The words that a key may have.
+_WORDS = {"how": ("rd", "wr", "rdwr"), "family": ("tcp", "unix"), "space": ("v4", "v6", "local")}
 
 #: The most calls of one Kernel. A run of the program has at most 100,000 lines, and the header is one.
 MOST_CALLS = 99_999
@@ -89,11 +92,14 @@ def audit(history, limits=None, program=None):
 
 
 def _unfit(keys):
-    """Of the keys of a call those whose values don't fit, or all if no range tells which."""
+    """Of the keys of a call those whose values don't fit, or all if no range and no word tells which."""
+    ranges = {**_RANGES, "name": _UINT if keys.get("space") == "local" else (0, 65_535)}
     unfit = {}
     for key, value in keys.items():
-        least, most = _RANGES.get(key, (None, None))
+        least, most = ranges.get(key, (None, None))
         if least is not None and not (isinstance(value, int) and least <= value <= most):
+            unfit[key] = value
+        if key in _WORDS and value not in _WORDS[key]:
             unfit[key] = value
     return ", ".join(f"{key}: {value!r}" for key, value in (unfit or keys).items())
 
@@ -194,8 +200,9 @@ class Kernel:
 
     def _call(self, op, **keys):
         answer = self.ask(op, **keys)
-        if "err" in answer:
-            raise OSError(*answer["err"])
+        for refused in ("err", "failed"):
+            if refused in answer:
+                raise OSError(*answer[refused])
         if "bad" in answer:
             raise ValueError(f"{op} takes no such {_unfit(keys)}")
         return answer
@@ -207,6 +214,10 @@ class Kernel:
     def socketpair(self, cloexec=False, *, by=0, pid=1):
         """The two ends of a new pair of sockets."""
         return tuple(self._call("socketpair", cloexec=cloexec, by=by, pid=pid)["two"])
+
+    def socket(self, family, cloexec=False, *, by=0, pid=1):
+        """A new socket, of "tcp" or "unix", which has no connection and no name."""
+        return self._call("socket", family=family, cloexec=cloexec, by=by, pid=pid)["num"]
 
     def eventfd(self, init=0, semaphore=False, cloexec=False, *, by=0, pid=1):
         """A new counter that starts at `init`; its values are 8 bytes, the lowest first."""
@@ -280,8 +291,23 @@ class Kernel:
         return self._name(self._call("sockname", fd=fd, by=by, pid=pid))
 
     def peername(self, fd, *, by=0, pid=1):
-        """The name of the socket at the other end, or None if that has none."""
+        """The name of the socket at the other end, or None if that has none. ENOTCONN if there is no connection."""
         return self._name(self._call("peername", fd=fd, by=by, pid=pid))
+
+    def bind(self, fd, name, *, by=0, pid=1):
+        """Gives a socket its name, (space, number), as `sockname` tells it. Number 0 asks for any that is free."""
+        space, number = name
+        self._call("bind", fd=fd, space=space, name=number, by=by, pid=pid)
+
+    def connect(self, fd, name, *, by=0, pid=1):
+        """Connects a socket to this name, (space, number). EINPROGRESS, a BlockingIOError, if it connects.
+
+        Nobody listens yet, so no connect gets through: that of TCP has failed when the call returns,
+        and that of Unix is ECONNREFUSED."""
+        space, number = name
+        answer = self._call("connect", fd=fd, space=space, name=number, by=by, pid=pid)
+        if "connecting" in answer:
+            raise OSError(errno.EINPROGRESS, "EINPROGRESS")
 
     @staticmethod
     def _name(answer):

@@ -1,10 +1,11 @@
 /* Drives Nippersage's program from C: one function for each call.
  *
  * A function answers 0 or more if its call is done, and a refusal as minus its error number, as
- * -EAGAIN. What is no refusal is one of the NIPPERSAGE_.. numbers below, which are less than that
- * of any error. docs/calls.md says what each call answers and refuses; docs/clients.md what is
- * promised. Needs no library but C's, in POSIX.1-2008: compile as GNU C, or define _POSIX_C_SOURCE
- * as 200809L.
+ * -EAGAIN. So it answers an error that waited at a socket, which is taken by that, and a connect
+ * that connects, by -EINPROGRESS. What is none of these is one of the NIPPERSAGE_.. numbers below,
+ * which are less than that of any error. docs/calls.md says what each call answers and refuses;
+ * docs/clients.md what is promised. Needs no library but C's, in POSIX.1-2008: compile as GNU C, or
+ * define _POSIX_C_SOURCE as 200809L.
  *
  * A time is a struct timespec. What is finer than the kernel's unit, a microsecond, is rounded up.
  * One that is no time, as with 1,000,000,000 nanoseconds, is -EINVAL, and nothing is sent. */
@@ -264,6 +265,8 @@ static inline int nippersage_ask(struct nippersage *kernel, const char *op, int 
     free(line);
     if (status < 0) return status;
     if (sscanf(kernel->answer, "{\"err\":[%d,", &number) == 1) return -number;
+    if (sscanf(kernel->answer, "{\"failed\":[%d,", &number) == 1) return -number;
+    if (strcmp(kernel->answer, "{\"connecting\":true}\n") == 0) return -EINPROGRESS;
     if (strncmp(kernel->answer, "{\"bad\":", 7) == 0) return NIPPERSAGE_RANGE;
     return 0;
 }
@@ -345,6 +348,16 @@ static inline int nippersage_pipe(struct nippersage *kernel, int cloexec, int en
 /* The two ends of a new pair of sockets. */
 static inline int nippersage_socketpair(struct nippersage *kernel, int cloexec, int ends[2]) {
     return nippersage_ends(kernel, "socketpair", cloexec, ends);
+}
+
+/* A new socket, which has no connection and no name: of TCP for AF_INET and AF_INET6, which make the same, of Unix for
+ * AF_UNIX. -EAFNOSUPPORT for any other `domain`, which is not sent. */
+static inline int nippersage_socket(struct nippersage *kernel, int domain, int cloexec) {
+    const char *family = domain == AF_INET || domain == AF_INET6 ? "tcp" : domain == AF_UNIX ? "unix" : NULL;
+    char rest[64];
+    if (!family) return -EAFNOSUPPORT;
+    snprintf(rest, sizeof rest, ",\"family\":\"%s\",\"cloexec\":%s", family, cloexec ? "true" : "false");
+    return (int)nippersage_number(kernel, "socket", rest);
 }
 
 /* A new counter that starts at `init`; its values are 8 bytes, the lowest first. */
@@ -504,9 +517,32 @@ static inline int nippersage_sockname(struct nippersage *kernel, int fd, struct 
     return nippersage_name_by(kernel, "sockname", fd, name);
 }
 
-/* The name of the socket at the other end. */
+/* The name of the socket at the other end. -ENOTCONN if there is no connection. */
 static inline int nippersage_peername(struct nippersage *kernel, int fd, struct nippersage_name *name) {
     return nippersage_name_by(kernel, "peername", fd, name);
+}
+
+/* A call that is given a name. -EINVAL for a space that is none, which is not sent. */
+static inline int nippersage_ask_with(struct nippersage *kernel, const char *op, int fd, const struct nippersage_name *name) {
+    static const char *const spaces[] = {"v4", "v6", "local"};
+    char rest[96];
+    int place = 0;
+    while (place < 3 && strncmp(name->space, spaces[place], sizeof name->space) != 0) place++;
+    if (place == 3) return -EINVAL;
+    snprintf(rest, sizeof rest, ",\"fd\":%d,\"space\":\"%s\",\"name\":%" PRIu32, fd, spaces[place], name->number);
+    return nippersage_ask(kernel, op, 1, rest);
+}
+
+/* Gives a socket its name. Number 0 asks for any that is free, and nippersage_sockname tells it. NIPPERSAGE_RANGE for a
+ * number above 65,535 in "v4" or "v6". */
+static inline int nippersage_bind(struct nippersage *kernel, int fd, const struct nippersage_name *name) {
+    return nippersage_ask_with(kernel, "bind", fd, name);
+}
+
+/* Connects a socket to this name: 0 if it is done, -EINPROGRESS if it connects. Nobody listens yet, so no connect gets
+ * through: that of a TCP socket has failed when the call returns, and that of a Unix one is -ECONNREFUSED. */
+static inline int nippersage_connect(struct nippersage *kernel, int fd, const struct nippersage_name *name) {
+    return nippersage_ask_with(kernel, "connect", fd, name);
 }
 
 /* Closes a descriptor. */

@@ -217,6 +217,103 @@ static void other_objects(const char *path) {
     EXPECT(nippersage_end(&kernel) == 0);
 }
 
+static void is_named(struct nippersage *kernel, int fd, const char *space, uint32_t number) {
+    struct nippersage_name name = {"", 7};
+    EXPECT(nippersage_sockname(kernel, fd, &name) == 1 && strcmp(name.space, space) == 0 && name.number == number);
+}
+
+/* The bits that a socket shows. */
+static uint32_t shown_at(struct nippersage *kernel, int fd) {
+    struct nippersage_report found = {0, 0};
+    int ep = nippersage_epoll(kernel, 0);
+    EXPECT(nippersage_ctl(kernel, ep, NIPPERSAGE_ADD, fd, NIPPERSAGE_IN | NIPPERSAGE_OUT | NIPPERSAGE_RDHUP, 0) == 0);
+    EXPECT(nippersage_wait(kernel, ep, &found, 1, 0) == 1 && nippersage_close(kernel, ep) == 0);
+    return found.bits;
+}
+
+static void new_sockets(const char *path) {
+    struct nippersage_name name;
+    struct nippersage kernel;
+    char bytes[8];
+    EXPECT(nippersage_start(&kernel, path, "6,4,2,8,4096,4096") == 0);
+    EXPECT(nippersage_socket(&kernel, AF_INET, 1) == 3 && nippersage_socket(&kernel, AF_UNIX, 0) == 4);
+    EXPECT(nippersage_socket(&kernel, -1, 0) == -EAFNOSUPPORT);
+    EXPECT(nippersage_read(&kernel, 3, bytes, 8) == -ENOTCONN && nippersage_peek(&kernel, 4, bytes, 8) == -EINVAL);
+    EXPECT(nippersage_write(&kernel, 3, "a", 1) == -EPIPE && nippersage_write(&kernel, 4, "a", 1) == -ENOTCONN);
+    EXPECT(nippersage_shutdown(&kernel, 3, SHUT_WR) == -ENOTCONN && nippersage_take_error(&kernel, 4) == 0);
+    EXPECT(nippersage_sockname(&kernel, 3, &name) == 0 && nippersage_peername(&kernel, 3, &name) == -ENOTCONN);
+    EXPECT(shown_at(&kernel, 4) == (NIPPERSAGE_OUT | NIPPERSAGE_HUP));
+    EXPECT(nippersage_socket(&kernel, AF_INET6, 0) == 5 && nippersage_socket(&kernel, AF_INET, 0) == -EMFILE);
+    EXPECT(nippersage_exec(&kernel) == 0 && nippersage_sockname(&kernel, 3, &name) == -EBADF);
+    EXPECT(nippersage_end(&kernel) == 0);
+    EXPECT(nippersage_start(&kernel, path, "6,1,2,8,4096,4096") == 0);
+    EXPECT(nippersage_socket(&kernel, AF_INET, 0) == -ENFILE && nippersage_end(&kernel) == 0);
+}
+
+static void names_given(const char *path) {
+    static const struct nippersage_name port = {"v4", 80}, other = {"v4", 81}, any = {"local", 0};
+    static const struct nippersage_name last = {"v6", 65535}, past = {"v6", 65536}, none = {"v5", 80};
+    static const struct nippersage_name longer = {"local\"v4", 1};
+    struct nippersage kernel;
+    EXPECT(nippersage_start(&kernel, path, NULL) == 0);
+    EXPECT(nippersage_socket(&kernel, AF_INET, 0) == 3 && nippersage_socket(&kernel, AF_INET6, 0) == 4);
+    EXPECT(nippersage_bind(&kernel, 3, &any) == -EAFNOSUPPORT && nippersage_bind(&kernel, 3, &port) == 0);
+    is_named(&kernel, 3, "v4", 80);
+    EXPECT(nippersage_bind(&kernel, 3, &other) == -EINVAL && nippersage_bind(&kernel, 4, &port) == -EADDRINUSE);
+    EXPECT(nippersage_bind(&kernel, 4, &past) == NIPPERSAGE_RANGE && nippersage_bind(&kernel, 4, &none) == -EINVAL);
+    EXPECT(nippersage_connect(&kernel, 4, &past) == NIPPERSAGE_RANGE);
+    EXPECT(nippersage_connect(&kernel, 4, &longer) == -EINVAL && nippersage_bind(&kernel, 4, &last) == 0);
+    is_named(&kernel, 4, "v6", 65535);
+    EXPECT(nippersage_socket(&kernel, AF_UNIX, 0) == 5);
+    EXPECT(nippersage_bind(&kernel, 5, &port) == -EINVAL && nippersage_bind(&kernel, 5, &any) == 0);
+    is_named(&kernel, 5, "local", 32768);
+    EXPECT(nippersage_bind(&kernel, 0, &port) == -ENOTSOCK && nippersage_bind(&kernel, 9, &port) == -EBADF);
+    EXPECT(nippersage_end(&kernel) == 0);
+}
+
+/* A connect that finds nobody, and what it leaves. */
+static void failed_connects(const char *path) {
+    static const struct nippersage_name port = {"v4", 80}, local = {"local", 7};
+    const uint32_t left = NIPPERSAGE_IN | NIPPERSAGE_OUT | NIPPERSAGE_HUP | NIPPERSAGE_RDHUP;
+    struct nippersage kernel;
+    char bytes[8];
+    EXPECT(nippersage_start(&kernel, path, NULL) == 0 && nippersage_socket(&kernel, AF_INET, 0) == 3);
+    EXPECT(nippersage_connect(&kernel, 3, &local) == -EAFNOSUPPORT);
+    EXPECT(nippersage_connect(&kernel, 3, &port) == -EINPROGRESS);
+    EXPECT(shown_at(&kernel, 3) == (left | NIPPERSAGE_ERR));
+    is_named(&kernel, 3, "v4", 32768);
+    EXPECT(nippersage_take_error(&kernel, 3) == 111 && nippersage_take_error(&kernel, 3) == 0);
+    EXPECT(shown_at(&kernel, 3) == left && nippersage_read(&kernel, 3, bytes, 8) == 0);
+    EXPECT(nippersage_write(&kernel, 3, "a", 1) == -EPIPE && nippersage_bind(&kernel, 3, &port) == -EINVAL);
+    EXPECT(nippersage_connect(&kernel, 3, &local) == -ECONNABORTED);
+    EXPECT(shown_at(&kernel, 3) == (NIPPERSAGE_OUT | NIPPERSAGE_HUP));
+    EXPECT(nippersage_connect(&kernel, 3, &port) == -EINPROGRESS);
+    EXPECT(nippersage_connect(&kernel, 3, &port) == -ECONNREFUSED);
+    EXPECT(nippersage_socket(&kernel, AF_UNIX, 0) == 4 && nippersage_bind(&kernel, 4, &local) == 0);
+    EXPECT(nippersage_connect(&kernel, 4, &local) == -ECONNREFUSED);
+    EXPECT(nippersage_connect(&kernel, 4, &port) == -EINVAL && nippersage_take_error(&kernel, 4) == 0);
+    EXPECT(nippersage_connect(&kernel, 0, &port) == -ENOTSOCK && nippersage_connect(&kernel, 9, &port) == -EBADF);
+    EXPECT(nippersage_end(&kernel) == 0);
+}
+
+/* Of the calls that find an error the first tells it, and the next connect that it was taken. */
+static void taken_errors(const char *path) {
+    static const struct nippersage_name port = {"v6", 80};
+    struct nippersage kernel;
+    char bytes[8];
+    EXPECT(nippersage_start(&kernel, path, NULL) == 0 && nippersage_socket(&kernel, AF_INET, 0) == 3);
+    EXPECT(nippersage_connect(&kernel, 3, &port) == -EINPROGRESS);
+    EXPECT(nippersage_read(&kernel, 3, bytes, 0) == 0 && nippersage_read(&kernel, 3, bytes, 8) == -ECONNREFUSED);
+    EXPECT(nippersage_read(&kernel, 3, bytes, 8) == 0 && nippersage_take_error(&kernel, 3) == 0);
+    EXPECT(nippersage_connect(&kernel, 3, &port) == -ECONNABORTED);
+    EXPECT(nippersage_connect(&kernel, 3, &port) == -EINPROGRESS);
+    EXPECT(nippersage_peek(&kernel, 3, bytes, 8) == -ECONNREFUSED && nippersage_take_error(&kernel, 3) == 0);
+    EXPECT(nippersage_connect(&kernel, 3, &port) == -ECONNABORTED);
+    EXPECT(nippersage_connect(&kernel, 3, &port) == -EINPROGRESS);
+    EXPECT(nippersage_write(&kernel, 3, "a", 1) == -ECONNREFUSED && nippersage_take_error(&kernel, 3) == 0);
+    EXPECT(nippersage_end(&kernel) == 0);
+}
+
 static void no_answer_of_the_kernel(const char *path) {
     static const char many[40000];
     struct nippersage kernel;
@@ -326,6 +423,10 @@ int main(int count, char **words) {
     exclusive(words[1]);
     processes(words[1]);
     other_objects(words[1]);
+    new_sockets(words[1]);
+    names_given(words[1]);
+    failed_connects(words[1]);
+    taken_errors(words[1]);
     no_answer_of_the_kernel(words[1]);
     return failures != 0;
 }

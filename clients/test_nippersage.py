@@ -9,7 +9,7 @@ from datetime import timedelta
 
 sys.dont_write_bytecode = True
 
-from nippersage import ET, EXCLUSIVE, HUP, IN, ONESHOT, OUT, Ended, Illegal, Kernel, audit
+from nippersage import ERR, ET, EXCLUSIVE, HUP, IN, ONESHOT, OUT, RDHUP, Ended, Illegal, Kernel, audit
 
 #: 16 descriptors, 16 files, 2 processes, a registration, and the least room of pipes and sockets.
 SMALL = (16, 16, 2, 1, 4_096, 4_096)
@@ -151,6 +151,84 @@ class Client(unittest.TestCase):
             self.expect_refusal(errno.ENOTSOCK, kernel.peek, counter, 1)
             kernel.close(right)
 
+    def shown_at(self, kernel, fd):
+        """The bits that a socket shows."""
+        instance = kernel.epoll()
+        kernel.add(instance, fd, IN | OUT | RDHUP)
+        ((mask, _),) = kernel.wait(instance)
+        kernel.close(instance)
+        return mask
+
+    def test_sockets_without_a_connection(self):
+        with Kernel(limits=(6, 4, 2, 8, 4_096, 4_096)) as kernel:
+            tcp, unix = kernel.socket("tcp", cloexec=True), kernel.socket("unix")
+            for fd, read, write in ((tcp, errno.ENOTCONN, errno.EPIPE), (unix, errno.EINVAL, errno.ENOTCONN)):
+                self.expect_refusal(read, kernel.read, fd, 8)
+                self.expect_refusal(read, kernel.peek, fd, 8)
+                self.expect_refusal(write, kernel.write, fd, b"a")
+                self.expect_refusal(errno.ENOTCONN, kernel.shutdown, fd)
+                self.expect_refusal(errno.ENOTCONN, kernel.peername, fd)
+                self.assertEqual((kernel.take_error(fd), kernel.sockname(fd)), (0, None))
+                self.assertEqual(self.shown_at(kernel, fd), OUT | HUP)
+            last = kernel.socket("tcp")
+            self.expect_refusal(errno.EMFILE, kernel.socket, "tcp")
+            kernel.dup2(unix, last)
+            kernel.close(last)
+            kernel.epoll()
+            kernel.exec()
+            self.expect_refusal(errno.EBADF, kernel.sockname, tcp)
+        with Kernel(limits=(6, 1, 2, 8, 4_096, 4_096)) as kernel:
+            self.expect_refusal(errno.ENFILE, kernel.socket, "unix")
+
+    def test_names_that_are_given(self):
+        with Kernel() as kernel:
+            first, second, unix = kernel.socket("tcp"), kernel.socket("tcp"), kernel.socket("unix")
+            self.expect_refusal(errno.EAFNOSUPPORT, kernel.bind, first, ("local", 80))
+            kernel.bind(first, ("v4", 80))
+            self.assertEqual(kernel.sockname(first), ("v4", 80))
+            self.expect_refusal(errno.EINVAL, kernel.bind, first, ("v4", 81))
+            self.expect_refusal(errno.EADDRINUSE, kernel.bind, second, ("v4", 80))
+            kernel.bind(second, ("v6", 65_535))
+            self.expect_refusal(errno.EINVAL, kernel.bind, unix, ("v6", 0))
+            kernel.bind(unix, ("local", 0))
+            self.assertEqual(kernel.sockname(unix), ("local", 32_768))
+            self.expect_refusal(errno.ENOTSOCK, kernel.bind, 0, ("v4", 9))
+            self.expect_refusal(errno.EBADF, kernel.bind, 77, ("v4", 9))
+
+    def test_connects_that_find_nobody(self):
+        left = IN | OUT | HUP | RDHUP
+        with Kernel() as kernel:
+            fd = kernel.socket("tcp")
+            self.expect_refusal(errno.EAFNOSUPPORT, kernel.connect, fd, ("local", 80))
+            with self.assertRaises(BlockingIOError) as caught:
+                kernel.connect(fd, ("v4", 80))
+            self.assertEqual(caught.exception.errno, 115)
+            self.assertEqual((kernel.sockname(fd), self.shown_at(kernel, fd)), (("v4", 32_768), left | ERR))
+            self.assertEqual((kernel.take_error(fd), kernel.take_error(fd)), (111, 0))
+            self.assertEqual((self.shown_at(kernel, fd), kernel.read(fd, 8)), (left, b""))
+            self.expect_refusal(errno.EPIPE, kernel.write, fd, b"a")
+            self.expect_refusal(errno.EINVAL, kernel.bind, fd, ("v4", 9))
+            self.expect_refusal(errno.ECONNABORTED, kernel.connect, fd, ("local", 1))
+            self.assertEqual(self.shown_at(kernel, fd), OUT | HUP)
+            takers = (kernel.read, (8,)), (kernel.peek, (8,)), (kernel.write, (b"a",)), (kernel.fill, (97, 2))
+            for call, words in takers:
+                self.expect_refusal(errno.EINPROGRESS, kernel.connect, fd, ("v6", 80))
+                self.expect_refusal(errno.ECONNREFUSED, call, fd, *words)
+                self.expect_refusal(errno.ECONNABORTED, kernel.connect, fd, ("v6", 80))
+            self.expect_refusal(errno.EINPROGRESS, kernel.connect, fd, ("v4", 80))
+            self.expect_refusal(errno.ECONNREFUSED, kernel.connect, fd, ("v4", 80))
+
+    def test_connects_of_unix_sockets(self):
+        with Kernel() as kernel:
+            fd, (left, _) = kernel.socket("unix"), kernel.socketpair()
+            kernel.bind(fd, ("local", 7))
+            self.expect_refusal(errno.ECONNREFUSED, kernel.connect, fd, ("local", 7))
+            self.expect_refusal(errno.EINVAL, kernel.connect, fd, ("v4", 7))
+            self.assertEqual((kernel.take_error(fd), self.shown_at(kernel, fd)), (0, OUT | HUP))
+            self.expect_refusal(errno.ECONNREFUSED, kernel.connect, left, ("local", 7))
+            self.expect_refusal(errno.ENOTSOCK, kernel.connect, 0, ("local", 7))
+            self.expect_refusal(errno.EBADF, kernel.connect, 77, ("local", 7))
+
     def test_what_is_no_call(self):
         with Kernel() as kernel:
             for call, words, key in (
@@ -159,6 +237,11 @@ class Client(unittest.TestCase):
                 (kernel.add, (3, 4, 1 << 32), "mask: 4294967296"),
                 (kernel.add, (3, 4, 1, -1), "data: -1"),
                 (kernel.eventfd, (-1,), "init: -1"),
+                (kernel.shutdown, (3, "both"), "how: 'both'"),
+                (kernel.socket, ("udp",), "family: 'udp'"),
+                (kernel.bind, (3, ("v5", 80)), "space: 'v5'"),
+                (kernel.bind, (3, ("v6", 65_536)), "name: 65536"),
+                (kernel.connect, (3, ("local", -1)), "name: -1"),
             ):
                 with self.assertRaises(ValueError) as caught:
                     call(*words)
