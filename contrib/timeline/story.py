@@ -11,11 +11,12 @@ ADD, DEL, MOD = 1, 2, 3
 EXCLUSIVE = 1 << 28
 #: The calls that can make an instance ready, and so mark a caller, unless they are refused; of ctl ADD and MOD. Once
 #: there was an exclusive registration DEL can mark one, too: at an instance that was passed over and has lost its last.
-RAISING = {"read", "write", "shutdown", "settime", "close", "dup2", "exec", "exit", "ctl"}
+RAISING = {"read", "write", "shutdown", "connect", "settime", "close", "dup2", "exec", "exit", "ctl"}
 #: The kinds of the descriptors that a call opens, in the order of its answer.
 OPENED = {
     "pipe": ["pipe, reads", "pipe, writes"],
     "socketpair": ["socket", "socket"],
+    "socket": ["socket"],
     "eventfd": ["eventfd"],
     "timerfd": ["timer"],
     "plain": ["plain"],
