@@ -30,13 +30,16 @@ ones that have reported what is below, so that only a mark tells their waiters. 
 descriptors closed, processes ended. A general script has pipes and timers, too.
 """
 
-import argparse
 import json
 import os
 import random
-import subprocess
 import sys
-import tempfile
+
+sys.dont_write_bytecode = True
+sys.path.insert(0, os.path.dirname(os.path.realpath(__file__)))
+
+import oracle  # noqa: E402
+from oracle import Wrong  # noqa: E402
 
 IN, OUT, ERR, HUP, RDHUP = 1, 4, 8, 16, 8192
 EXCLUSIVE, WAKEUP, ONESHOT, ET = 1 << 28, 1 << 29, 1 << 30, 1 << 31
@@ -59,12 +62,6 @@ NAMES = {
     40: "ELOOP",
 }
 EPERM, ENOENT, ESRCH, EBADF, EAGAIN, EBUSY, EEXIST, EINVAL, EPIPE, ELOOP = NAMES
-#: How many failed scripts are told, and how long a run may take.
-TOLD, SECONDS = 3, 600
-
-
-class Wrong(Exception):
-    """What is wrong with an answer."""
 
 
 class Refused(Exception):
@@ -127,7 +124,7 @@ class Waiter:
         self.is_marked = False
 
 
-class Machine:
+class Machine(oracle.Judge):
     """The state, and what a line of a script may be answered in it."""
 
     def __init__(self):
@@ -760,114 +757,15 @@ def general_step(it, counters, timers, readers, writers, instances, targets):
         it.put(op="wait", by=7, ep=chance.choice(instances), max=8, timeout=0, pid=it.pid())
 
 
+def kind_of(words):
+    return "general" if words.general else "bent"
+
+
 def script_of(words, number):
-    """The lines of a script, as JSON."""
+    """The lines of a script."""
     make = general if words.general else bent
-    return [json.dumps(it) for it in make(random.Random(f"{words.seed}:{number}"))]
-
-
-# ---- The runs ----
-
-
-def run(words, lines, room):
-    """The answers of epsim to a script. Wrong, if it or the audit ends otherwise than it should."""
-    history = os.path.join(room, "history")
-    asks = [words.epsim, *["--plain"] * words.plain, *(["--history", history] if words.audit else [])]
-    given = "".join(f"{it}\n" for it in lines).encode()
-    try:
-        ran = subprocess.run(asks, input=given, capture_output=True, timeout=SECONDS)
-    except subprocess.TimeoutExpired:
-        raise Wrong(f"epsim took more than {SECONDS} s")
-    if ran.returncode:
-        raise Wrong(f"epsim ended with {ran.returncode}: {ran.stderr.decode(errors='replace').strip()}")
-    if words.audit:
-        with open(history, "rb") as records:
-            judged = subprocess.run([words.audit], stdin=records, capture_output=True)
-        if judged.returncode:
-            said = (judged.stdout + judged.stderr).decode(errors="replace").strip()
-            raise Wrong(f"epaudit ended with {judged.returncode}: {said}")
-    return ran.stdout.decode(errors="replace").splitlines()
-
-
-def fault_of(words, lines, room):
-    """What is wrong in the run of a script, or None."""
-    try:
-        answers = run(words, lines, room)
-    except Wrong as wrong:
-        return str(wrong)
-    if len(answers) != len(lines):
-        return f"{len(lines)} lines have {len(answers)} answers"
-    machine = Machine()
-    for number, (line, answer) in enumerate(zip(lines, answers), 1):
-        try:
-            machine.step(json.loads(line), json.loads(answer))
-        except (Wrong, ValueError, TypeError) as wrong:
-            # Of the last two is an answer that is no JSON, or no answer.
-            return f"line {number}: {line} is answered {answer}; {wrong}"
-    return None
-
-
-def keep(words, number, lines):
-    kind = "general" if words.general else "bent"
-    with open(os.path.join(words.keep, f"{kind}-{words.seed}-{number}.jsonl"), "w") as file:
-        file.writelines(f"{it}\n" for it in lines)
-
-
-def run_all(words):
-    """Runs the scripts and tells which failed: how many did."""
-    count, failed = 0, 0
-    with tempfile.TemporaryDirectory(prefix="exclusive-oracle-") as room:
-        for number in range(words.first, words.first + words.count):
-            lines = script_of(words, number)
-            count += len(lines)
-            fault = fault_of(words, lines, room)
-            if fault is None:
-                continue
-            failed += 1
-            if failed <= TOLD:
-                print(f"script {number}: {fault}", flush=True)
-            if words.keep:
-                keep(words, number, lines)
-    print(f"{count} lines", f"{words.count - failed} passed, {failed} failed", sep="\n")
-    return failed
-
-
-def whole(text):
-    if not (text.isascii() and text.isdigit()):
-        raise argparse.ArgumentTypeError(f"{text!r} is no whole number")
-    return int(text)
-
-
-def read_words():
-    top = argparse.ArgumentParser(usage=__doc__.split("usage: ")[1].split("\n\n")[0], add_help=False)
-    top.add_argument("epsim", nargs="?")
-    top.add_argument("count", nargs="?", type=whole)
-    for it in ("--general", "--plain", "--print", "--help", "-h"):
-        top.add_argument(it, action="store_true")
-    top.add_argument("--seed", default="1")
-    top.add_argument("--first", type=whole, default=0)
-    top.add_argument("--audit")
-    top.add_argument("--keep")
-    words = top.parse_args()
-    if not (words.print or words.help or words.h) and words.count is None:
-        top.error("EPSIM and COUNT are missing")
-    return words
-
-
-def main():
-    words = read_words()
-    if words.help or words.h:
-        print(__doc__.strip())
-        return 0
-    if words.print:
-        print(*script_of(words, words.first), sep="\n")
-        return 0
-    try:
-        return 1 if run_all(words) else 0
-    except OSError as fault:
-        print(f"exclusive_oracle: {fault}", file=sys.stderr)
-        return 2
+    return make(random.Random(f"{words.seed}:{number}"))
 
 
 if __name__ == "__main__":
-    sys.exit(main())
+    sys.exit(oracle.main(oracle.Oracle(__doc__, ("--general",), kind_of, script_of, lambda words: Machine())))

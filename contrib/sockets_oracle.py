@@ -1,64 +1,89 @@
 #!/usr/bin/env python3
-"""Runs random scripts of half-closed socket pairs on epsim and on the machine's kernel, and compares the answers.
+"""Runs random scripts of sockets on epsim and on the machine's kernel, and compares the answers.
 
-usage: contrib/sockets_oracle.py [--plain] [--audit EPAUDIT] [--seed TEXT] [--first N] [--keep FOLDER] EPSIM COUNT
-       contrib/sockets_oracle.py [--seed TEXT] [--first N] --print
+usage: contrib/sockets_oracle.py [--model] [--plain] [--audit EPAUDIT] [--seed TEXT] [--first N] [--keep FOLDER]
+                                 EPSIM COUNT
+       contrib/sockets_oracle.py [--model] [--seed TEXT] [--first N] --print
 
 EPSIM             the program epsim
 COUNT             how many scripts are run, some 100 in a second
+--model           other scripts, whose answers are compared with rules of its own, in place of the machine's kernel
 --plain           runs them on PlainKernel, in place of ReadyKernel
 --audit EPAUDIT   writes the history of each run, too, and has it judged by this program epaudit
---seed TEXT       other scripts: script N is made of TEXT and N alone. Without it TEXT is 1
+--seed TEXT       other scripts: script N is made of its kind, TEXT and N alone. Without it TEXT is 1
 --first N         begins with script N, in place of script 0
---keep FOLDER     writes each script that fails to FOLDER, as sockets-TEXT-N.jsonl
+--keep FOLDER     writes each script that fails to FOLDER, as sockets-TEXT-N.jsonl or model-TEXT-N.jsonl
 --print           prints script N and runs nothing
 
-It needs Python 3.8 and Linux, on whose socket pairs the same calls are made. Of the first three scripts that fail it
-prints the line with another answer, and both answers. The last two lines are how many lines were asked, and `N passed,
-N failed` over the scripts. The status is 0 if none failed, 1 if one did, 2 if the words are bad or something can't be
-run or written.
+It needs Python 3.8, and without --model Linux with IPv6, where the same calls are made. Of the first three scripts that
+fail it prints the line with another answer, and both answers. The last two lines are how many lines were asked, and `N
+passed, N failed` over the scripts. The status is 0 if none failed, 1 if one did, 2 if the words are bad or something
+can't be run or written.
 
-A script has up to three socket pairs, a pipe beside them, and an instance. Its lines write, read, look at bytes, shut
-either direction or both, ask for errors and names, copy and close descriptors, and register and wait. Every call has to
-be answered as Linux answers it, refusals too. In which order a wait reports is free, so reports are compared as a set.
+A script has socket pairs, or TCP and Unix sockets without a connection, or both, perhaps a pipe beside them, and an
+instance. Its lines write, read, look at bytes, shut either direction or both, ask for errors and names, bind and
+connect, copy and close descriptors, and register and wait. Every call has to be answered as Linux answers it, refusals
+too. In which order a wait reports is free, so reports are compared as a set. Which number a bind of number 0 or a
+connect gives is free, too. But one number here has to be one number there, for as long as a socket has that name.
+
+The names there are ports of the loopback and abstract Unix names. If this process may have a network of its own, as
+root may, the calls are made in it. Else they are made on the loopback of the machine, at ports that are free when the
+run begins, and nobody else may use these in the meantime.
 
 What docs/LIMITS.md says of Linux is kept out, or allowed for:
 
 - writes and peeks of no bytes, which are refused or not by other rules
-- a close of an end at which bytes wait unread: each close has a read of all before it
+- a close of an end at which bytes wait unread: each close of such an end has a read of all before it
 - full queues: a script writes some hundred bytes at most
 - edge-triggered registrations: Linux may report one that isn't reported here. What is reported here has to be reported
   by Linux, with the same bits
+- a TCP socket that connects to its own name: there it connects to another one
+- a TCP socket is of one family there, by its number: those under even numbers have names in v4, the others in v6
+
+So is what Linux does otherwise with sockets that have no connection, or with names:
+
+- shutdown(2) of a socket without a connection has an effect: so it isn't made there, and ENOTCONN is expected
+- bind(2) of a pair's end is taken: so it isn't made there, and EINVAL is expected
+- a connect that tells an error wakes: so in the next wait Linux may report one more edge-triggered registration
+- a name that a bind of number 0 or a connect gave is lost once the connect has failed: so there each socket is bound to
+  a number of this program's choice
+
+The scripts of --model have sockets without a connection and an instance. They have writes and peeks of no bytes, too,
+names in both spaces of TCP, and one-shot registrations. The rules are those of docs/calls.md, told once more in Python,
+and every answer is foretold, with the numbers that are given and with what an edge-triggered registration reports. So a
+fault of a kernel stays unseen only if it was made here, too.
 """
 
-import argparse
-import ctypes
-import errno
 import json
 import os
-import platform
 import random
-import socket
-import subprocess
 import sys
-import tempfile
 from collections import Counter
+from errno import ECONNABORTED, ECONNREFUSED, EINPROGRESS
 
-IN, OUT, RDHUP, ET = 1, 4, 8192, 1 << 31
-#: The number under which the machine's kernel has descriptor 0 of a script, and the least that a script's calls give out.
-BASE, LEAST = 200, 3
-#: What a read asks for that has to take all, and the most bytes of a write.
-ALL, WRITTEN = 65536, 9
-#: The most reports of a wait, and the bytes that are taken of a name.
-MOST, NAME_BYTES = 64, 128
-HOWS = {"rd": socket.SHUT_RD, "wr": socket.SHUT_WR, "rdwr": socket.SHUT_RDWR}
-ACTS = {"add": 1, "del": 2, "mod": 3}
-#: How many failed scripts are told, and how long a run may take.
-TOLD, SECONDS = 3, 600
+sys.dont_write_bytecode = True
+sys.path.insert(0, os.path.dirname(os.path.realpath(__file__)))
 
+import oracle  # noqa: E402
+from sockets_linux import Linux, space_of  # noqa: E402
+from sockets_model import Model  # noqa: E402
 
-class Wrong(Exception):
-    """What is wrong with an answer, or with a run."""
+IN, OUT, RDHUP, ONESHOT, ET = 1, 4, 8192, 1 << 30, 1 << 31
+#: The least number that a script's calls give out.
+LEAST = 3
+#: What a read asks for that has to take all, the most bytes of a write, and the most reports of a wait.
+ALL, WRITTEN, MOST = 65536, 9, 64
+#: The kinds of socket without a connection, and the spaces of their names.
+SPACES = {"tcp": ["v4", "v6"], "v4": ["v4"], "v6": ["v6"], "local": ["local"]}
+SOCKETS = ["pair", *SPACES]
+#: Numbers of names, of which a script has two: some of them can be given, too.
+NUMBERS = [7, 80, 32768, 32769, 32770, 60999, 65535]
+#: What sockets without a connection a script makes.
+MADE = [["tcp"], ["unix"], ["tcp", "tcp", "unix"]]
+#: The most sockets of a script, about.
+ENOUGH = 6
+#: The errors that a socket can tell though the call wasn't refused.
+WAITED = ECONNREFUSED, ECONNABORTED
 
 
 # ---- The scripts ----
@@ -67,12 +92,18 @@ class Wrong(Exception):
 class Script:
     """A script in the making: its lines, and what its numbers name."""
 
-    def __init__(self, chance):
-        self.chance = chance
+    def __init__(self, chance, is_model):
+        self.chance, self.is_model = chance, is_model
         self.lines = []
         self.tag = 0
+        #: The numbers of its names, of which 0 stands for any and one comes often, and what sockets it makes.
+        often, seldom = chance.sample(NUMBERS, 2)
+        self.numbers = [0, often, often, often, seldom]
+        self.makes = chance.choice(MADE if is_model else [["pair"], ["pair", "tcp", "tcp", "unix"], *MADE])
         #: What each open number names: a socket or a pipe's end, as a word; an instance.
         self.open = {}
+        #: The numbers of which a bind was asked.
+        self.bound = set()
 
     def put(self, op, **keys):
         self.lines.append({"op": op, **keys})
@@ -88,15 +119,37 @@ class Script:
         for _ in range(ends):
             self.open[self.free()] = kind
 
+    def sockets(self):
+        return [fd for fd, it in self.open.items() if it in SOCKETS]
+
     def any_number(self):
         """Mostly a socket, sometimes another descriptor, seldom none."""
         kind = self.chance.random()
-        sockets = [fd for fd, it in self.open.items() if it == "socket"]
+        sockets = self.sockets()
         if kind < 0.92 and sockets:
             return self.chance.choice(sockets)
         if kind < 0.97:
             return self.chance.choice(list(self.open))
         return self.chance.choice([self.free(), 90, -1])
+
+    def put_named(self, op, fd):
+        """A call with a name, mostly for a socket that can have it, and mostly in a space of that socket. Then a look
+        at the name that it has, so that no line names a number that was given and that nobody has asked for."""
+        able = [it for it, kind in self.open.items() if kind in SPACES]
+        if able and self.likely(0.7):
+            unbound = [it for it in able if it not in self.bound]
+            fd = self.chance.choice(unbound if unbound and op == "bind" else able)
+        if op == "bind":
+            self.bound.add(fd)
+        spaces = SPACES.get(self.open.get(fd), ["local", "v4"])
+        if self.likely(0.08):
+            spaces = ["v4", "v6"] if spaces == ["local"] else ["local"]
+        self.put(op, fd=fd, space=self.chance.choice(spaces), name=self.chance.choice(self.numbers))
+        self.put("sockname", fd=fd)
+
+    def length(self, *lengths):
+        """A number of bytes. No bytes at all are answered otherwise by Linux."""
+        return self.chance.choice([*lengths, *[0] * self.is_model])
 
     def instance(self):
         return next(fd for fd, it in self.open.items() if it == "epoll")
@@ -107,296 +160,182 @@ class Script:
     def register(self, act, fd):
         self.tag += 1
         mask = sum(bit for bit in (IN, OUT, RDHUP) if self.likely(0.7)) + ET * self.likely(0.3)
+        mask += ONESHOT * (self.is_model and self.likely(0.15))
         self.put("ctl", ep=self.instance(), act=act, fd=fd, mask=mask, data=self.tag)
 
-    def close(self, fd):
-        """Closes a number, once nothing waits at its socket that nobody has read."""
-        if self.open.get(fd) == "epoll":
-            return
-        if self.open.get(fd) == "socket":
-            self.put("read", fd=fd, n=ALL)
-        self.put("close", fd=fd)
-        self.open.pop(fd, None)
+
+# What a line of a script does with a number
 
 
-def step(it):
-    """A line of a script, mostly with a wait behind it."""
-    chance, kind, fd = it.chance, it.chance.random(), it.any_number()
-    if kind < 0.2:
-        it.put("write", fd=fd, hex=bytes(chance.choices(b"abcdefgh", k=chance.randint(1, WRITTEN))).hex())
-    elif kind < 0.34:
-        it.put("read", fd=fd, n=chance.choice([0, 1, 2, 3, 5, 17, 100]))
-    elif kind < 0.46:
-        it.put("peek", fd=fd, n=chance.choice([1, 2, 3, 5, 17, 100]))
-    elif kind < 0.64:
-        it.put("shutdown", fd=fd, how=chance.choice(list(HOWS)))
-    elif kind < 0.74:
-        it.put(chance.choice(["sockerr", "sockname", "peername"]), fd=fd)
-    elif kind < 0.80:
-        it.put("dup", fd=fd)
-        if fd in it.open:
-            it.open[it.free()] = it.open[fd]
-    elif kind < 0.87:
-        it.close(fd)
-    elif kind < 0.97:
-        it.register(chance.choice(["add", "add", "mod", "mod", "del"]), fd)
-    elif list(it.open.values()).count("socket") < 5:
-        it.opened("socket", "socketpair", 2)
-    if it.likely(0.7):
-        it.wait()
+def write(it, fd):
+    length = it.length(*range(1, WRITTEN + 1))
+    it.put("write", fd=fd, hex=bytes(it.chance.choices(b"abcdefgh", k=length)).hex())
+
+
+def read(it, fd):
+    it.put("read", fd=fd, n=it.chance.choice([0, 1, 2, 3, 5, 17, 100]))
+
+
+def peek(it, fd):
+    it.put("peek", fd=fd, n=it.length(1, 2, 3, 5, 17, 100))
+
+
+def shut(it, fd):
+    it.put("shutdown", fd=fd, how=it.chance.choice(["rd", "wr", "rdwr"]))
+
+
+def ask(it, fd):
+    it.put(it.chance.choice(["sockerr", "sockname", "peername"]), fd=fd)
+
+
+def bind(it, fd):
+    it.put_named("bind", fd)
+
+
+def connect(it, fd):
+    it.put_named("connect", fd)
+
+
+def copy(it, fd):
+    it.put("dup", fd=fd)
+    if fd in it.open:
+        it.open[it.free()] = it.open[fd]
+
+
+def close(it, fd):
+    """Closes a number, once nothing waits at an end of a pair that nobody has read."""
+    if it.open.get(fd) == "epoll":
+        return
+    if it.open.get(fd) == "pair":
+        it.put("read", fd=fd, n=ALL)
+    it.put("close", fd=fd)
+    it.open.pop(fd, None)
+    it.bound.discard(fd)
+
+
+def register(it, fd):
+    it.register(it.chance.choice(["add", "add", "mod", "mod", "del"]), fd)
+
+
+def make(it, fd=None):
+    """A new socket without a connection, or a pair."""
+    if len(it.sockets()) >= ENOUGH:
+        return
+    kind = it.chance.choice(it.makes)
+    if kind == "pair":
+        it.opened("pair", "socketpair", 2)
+    elif kind == "unix":
+        it.opened("local", "socket", 1, family="unix")
+    else:
+        it.opened("tcp" if it.is_model else space_of(it.free()), "socket", 1, family="tcp")
+
+
+#: How often each of them is called.
+STEPS = {
+    write: 16,
+    read: 12,
+    peek: 10,
+    shut: 14,
+    ask: 10,
+    bind: 9,
+    connect: 10,
+    copy: 6,
+    close: 7,
+    register: 10,
+    make: 7,
+}
+
+
+def kind_of(words):
+    return "model" if words.model else "sockets"
 
 
 def script_of(words, number):
     """The lines of a script."""
     chance = random.Random(f"{words.seed}:{number}")
-    it = Script(chance)
+    it = Script(chance, words.model)
     it.opened("epoll", "epoll", 1)
-    for _ in range(chance.choice([1, 1, 2])):
-        it.opened("socket", "socketpair", 2)
-    if it.likely(0.3):
+    for _ in range(chance.randint(1, 4)):
+        make(it)
+    if not words.model and it.likely(0.3):
         it.opened("pipe", "pipe", 2)
-    for fd, kind in list(it.open.items()):
-        if kind == "socket" and it.likely(0.9):
+    for fd in it.sockets():
+        if it.likely(0.9):
             it.register("add", fd)
     it.wait()
     for _ in range(chance.randint(8, 40)):
-        step(it)
+        (step,) = chance.choices(list(STEPS), list(STEPS.values()))
+        step(it, it.any_number())
+        if it.likely(0.7):
+            it.wait()
     it.wait()
     return it.lines
 
 
-# ---- The machine's kernel ----
+# ---- The judges ----
 
 
-class Event(ctypes.Structure):
-    """A struct epoll_event."""
+def reports(answer):
+    """The reports of an answer, in no order. None if it has none."""
+    if not isinstance(answer, dict) or {*answer} != {"events"}:
+        return None
+    return Counter(tuple(it) for it in answer["events"])
 
-    _pack_ = 1 if platform.machine() in ("x86_64", "AMD64") else 8
-    _fields_ = [("bits", ctypes.c_uint32), ("data", ctypes.c_uint64)]
 
-
-class Linux:
-    """Makes the calls of a script on the machine's kernel. Descriptor N of the script is number BASE + N there."""
+class BesideLinux(oracle.Judge):
+    """Makes the calls of a script on the machine's kernel, too, and compares the answers."""
 
     def __init__(self):
-        self.c = ctypes.CDLL(None, use_errno=True)
-        self.used = set()
+        self.linux = Linux()
+        #: The data of the edge-triggered registrations that Linux may report more often: those of ends of pairs and
+        #: pipes, and those of sockets without a connection once a connect has told an error, until the next wait.
+        self.ends, self.sockets, self.has_told = set(), set(), False
 
-    def called(self, name, *words):
-        """What a function of the C library gives. Raises OSError."""
-        given = getattr(self.c, name)(*words)
-        if given < 0:
-            raise OSError(ctypes.get_errno(), name)
-        return given
+    def step(self, line, answer):
+        if line.get("mask", 0) & ET:
+            (self.sockets if self.linux.is_apart(line["fd"]) else self.ends).add(line["data"])
+        other = self.as_here(line, self.linux.answer(line))
+        if not self.are_alike(answer, other):
+            raise oracle.Wrong(f"Linux: {json.dumps(other)}")
+        self.has_told = line["op"] != "wait" and (self.has_told or line["op"] == "connect" and "failed" in answer)
 
-    def real(self, fd):
-        return fd if fd < 0 else BASE + fd
+    def as_here(self, line, other):
+        """An answer of Linux as epsim gives it. There a connect that has begun looks like a refusal, and so does an
+        error that waited at a TCP socket and is taken."""
+        number, _ = other.get("err", (0, ""))
+        if number == EINPROGRESS:
+            return {"connecting": True}
+        return {"failed": other["err"]} if number in WAITED and self.linux.is_tcp(line["fd"]) else other
 
-    def placed(self, fd):
-        """Puts what was just opened under the lowest number that is free in the script: that number."""
-        number = next(it for it in range(LEAST, 99) if it not in self.used)
-        self.called("dup2", fd, BASE + number)
-        os.close(fd)
-        self.used.add(number)
-        return number
-
-    def answer(self, line):
-        keys = {key: it for key, it in line.items() if key != "op"}
-        try:
-            return getattr(self, line["op"])(**keys)
-        except OSError as refused:
-            return {"err": [refused.errno, errno.errorcode[refused.errno]]}
+    def are_alike(self, mine, other):
+        """Whether an answer is that of Linux. Of reports at edge-triggered registrations Linux may have more."""
+        here, there = reports(mine), reports(other)
+        if here is not None and there is not None:
+            edges = self.ends | self.sockets if self.has_told else self.ends
+            return not here - there and all(data in edges for _, data in there - here)
+        if {*mine, *other} == {"name"} and mine["name"] and other["name"]:
+            return self.linux.is_told(mine["name"], other["name"])
+        return mine == other
 
     def end(self):
-        for it in self.used:
-            os.close(BASE + it)
-
-    # The calls of a script, by the names of their operations
-
-    def epoll(self):
-        return {"num": self.placed(self.called("epoll_create1", 0))}
-
-    def socketpair(self):
-        pair = (ctypes.c_int * 2)()
-        self.called("socketpair", socket.AF_UNIX, socket.SOCK_STREAM | socket.SOCK_NONBLOCK, 0, pair)
-        return {"two": [self.placed(it) for it in pair]}
-
-    def pipe(self):
-        return {"two": [self.placed(it) for it in os.pipe2(os.O_NONBLOCK)]}
-
-    def dup(self, fd):
-        return {"num": self.placed(self.called("dup", self.real(fd)))}
-
-    def close(self, fd):
-        self.called("close", self.real(fd))
-        self.used.discard(fd)
-        return {"done": True}
-
-    def write(self, fd, hex):
-        given = bytes.fromhex(hex)
-        return {"num": self.called("write", self.real(fd), given, len(given))}
-
-    def bytes(self, function, fd, n, *flags):
-        room = ctypes.create_string_buffer(n + 1)
-        count = self.called(function, self.real(fd), room, n, *flags)
-        return {"bytes": room.raw[:count].hex()}
-
-    def read(self, fd, n):
-        return self.bytes("read", fd, n)
-
-    def peek(self, fd, n):
-        return self.bytes("recv", fd, n, socket.MSG_PEEK)
-
-    def shutdown(self, fd, how):
-        self.called("shutdown", self.real(fd), HOWS[how])
-        return {"done": True}
-
-    def sockerr(self, fd):
-        value, size = ctypes.c_int(), ctypes.c_uint32(4)
-        place = ctypes.byref(value), ctypes.byref(size)
-        self.called("getsockopt", self.real(fd), socket.SOL_SOCKET, socket.SO_ERROR, *place)
-        return {"num": value.value}
-
-    def name(self, function, fd):
-        """A name of a family and nothing else is none."""
-        room, size = ctypes.create_string_buffer(NAME_BYTES), ctypes.c_uint32(NAME_BYTES)
-        self.called(function, self.real(fd), room, ctypes.byref(size))
-        return {"name": None if size.value == 2 else room.raw[: size.value].hex()}
-
-    def sockname(self, fd):
-        return self.name("getsockname", fd)
-
-    def peername(self, fd):
-        return self.name("getpeername", fd)
-
-    def ctl(self, ep, act, fd, mask, data):
-        event = Event(mask, data)
-        self.called("epoll_ctl", self.real(ep), ACTS[act], self.real(fd), ctypes.byref(event))
-        return {"done": True}
-
-    def wait(self, ep, max, timeout):
-        room = (Event * max)()
-        count = self.called("epoll_wait", self.real(ep), room, max, timeout)
-        return {"events": [[it.bits, it.data] for it in room[:count]]}
+        self.linux.end()
 
 
-# ---- The runs ----
+class ByRules(oracle.Judge):
+    """Foretells each answer."""
+
+    def __init__(self):
+        self.model = Model()
+
+    def step(self, line, answer):
+        wanted = self.model.answer(line)
+        if answer != wanted and (reports(wanted) is None or reports(answer) != reports(wanted)):
+            raise oracle.Wrong(f"wanted: {json.dumps(wanted)}")
 
 
-def run(words, lines, room):
-    """The answers of epsim to a script. Wrong, if it or the audit ends otherwise than it should."""
-    history = os.path.join(room, "history")
-    asks = [words.epsim, *["--plain"] * words.plain, *(["--history", history] if words.audit else [])]
-    given = "".join(f"{json.dumps(it)}\n" for it in lines).encode()
-    try:
-        ran = subprocess.run(asks, input=given, capture_output=True, timeout=SECONDS)
-    except subprocess.TimeoutExpired:
-        raise Wrong(f"epsim took more than {SECONDS} s")
-    if ran.returncode or ran.stderr:
-        raise Wrong(f"epsim ended with {ran.returncode}: {ran.stderr.decode(errors='replace').strip()}")
-    if words.audit:
-        with open(history, "rb") as records:
-            judged = subprocess.run([words.audit], stdin=records, capture_output=True)
-        if judged.returncode:
-            said = (judged.stdout + judged.stderr).decode(errors="replace").strip()
-            raise Wrong(f"epaudit ended with {judged.returncode}: {said}")
-    return ran.stdout.decode(errors="replace").splitlines()
-
-
-def are_alike(mine, other, edges):
-    """Whether an answer is that of Linux. Of reports at edge-triggered registrations Linux may have more."""
-    if not isinstance(mine, dict) or {*mine, *other} != {"events"}:
-        return mine == other
-    here, there = (Counter(tuple(it) for it in answer["events"]) for answer in (mine, other))
-    return not here - there and all(data in edges for _, data in there - here)
-
-
-def compare(lines, answers):
-    """What is wrong in the answers to a script, or None."""
-    linux, edges = Linux(), set()
-    try:
-        for number, (line, answer) in enumerate(zip(lines, answers), 1):
-            if line.get("mask", 0) & ET:
-                edges.add(line["data"])
-            other = linux.answer(line)
-            if not are_alike(json.loads(answer), other, edges):
-                return f"line {number}: {json.dumps(line)} is answered {answer}; Linux: {json.dumps(other)}"
-    finally:
-        linux.end()
-    return None
-
-
-def fault_of(words, lines, room):
-    """What is wrong in the run of a script, or None."""
-    try:
-        answers = run(words, lines, room)
-        if len(answers) != len(lines):
-            raise Wrong(f"{len(lines)} lines have {len(answers)} answers")
-        return compare(lines, answers)
-    except (Wrong, ValueError) as wrong:
-        return str(wrong)
-
-
-def keep(words, number, lines):
-    with open(os.path.join(words.keep, f"sockets-{words.seed}-{number}.jsonl"), "w") as file:
-        file.writelines(f"{json.dumps(it)}\n" for it in lines)
-
-
-def run_all(words):
-    """Runs the scripts and tells which failed: how many did."""
-    count, failed = 0, 0
-    with tempfile.TemporaryDirectory(prefix="sockets-oracle-") as room:
-        for number in range(words.first, words.first + words.count):
-            lines = script_of(words, number)
-            count += len(lines)
-            fault = fault_of(words, lines, room)
-            if fault is None:
-                continue
-            failed += 1
-            if failed <= TOLD:
-                print(f"script {number}: {fault}", flush=True)
-            if words.keep:
-                keep(words, number, lines)
-    print(f"{count} lines", f"{words.count - failed} passed, {failed} failed", sep="\n")
-    return failed
-
-
-def whole(text):
-    if not (text.isascii() and text.isdigit()):
-        raise argparse.ArgumentTypeError(f"{text!r} is no whole number")
-    return int(text)
-
-
-def read_words():
-    top = argparse.ArgumentParser(usage=__doc__.split("usage: ")[1].split("\n\n")[0], add_help=False)
-    top.add_argument("epsim", nargs="?")
-    top.add_argument("count", nargs="?", type=whole)
-    for it in ("--plain", "--print", "--help", "-h"):
-        top.add_argument(it, action="store_true")
-    top.add_argument("--seed", default="1")
-    top.add_argument("--first", type=whole, default=0)
-    top.add_argument("--audit")
-    top.add_argument("--keep")
-    words = top.parse_args()
-    if not (words.print or words.help or words.h) and words.count is None:
-        top.error("EPSIM and COUNT are missing")
-    return words
-
-
-def main():
-    words = read_words()
-    if words.help or words.h:
-        print(__doc__.strip())
-        return 0
-    if words.print:
-        print(*map(json.dumps, script_of(words, words.first)), sep="\n")
-        return 0
-    try:
-        return 1 if run_all(words) else 0
-    except OSError as fault:
-        print(f"sockets_oracle: {fault}", file=sys.stderr)
-        return 2
+def judge_of(words):
+    return ByRules() if words.model else BesideLinux()
 
 
 if __name__ == "__main__":
-    sys.exit(main())
+    sys.exit(oracle.main(oracle.Oracle(__doc__, ("--model",), kind_of, script_of, judge_of)))
