@@ -125,20 +125,27 @@ pub enum Call {
         fd: Fd,
         name: Name,
     },
-    /// listen(2): takes connections, of which `backlog` + 1 may wait. No kernel has such a socket yet: EINVAL.
+    /// listen(2): from now on the socket listens, and `backlog` + 1 connections may wait there, of which at most
+    /// 4,097. A negative number asks for the most. A TCP socket without a name gets one of IPv4, as by a bind to
+    /// number 0. A listener that listens again changes how many may wait. Answered by `Answer::Done`. EBADF, ENOTSOCK,
+    /// EINVAL if it has a connection, its connect failed, or it is a Unix socket without a name, EADDRINUSE if no name
+    /// is free.
     Listen {
         fd: Fd,
         backlog: i32,
     },
-    /// connect(2) to the socket that listens at this name. None does yet. So a Unix socket is refused: EBADF, ENOTSOCK,
+    /// connect(2) to the socket that listens at this name. If none does, a Unix socket is refused: EBADF, ENOTSOCK,
     /// EINVAL for a name of TCP, ECONNREFUSED. A TCP socket is answered by `Answer::Connecting`, gets a name if it has
     /// none, and has failed when the call returns. The next connect tells so by `Answer::Failed`: ECONNREFUSED, or
     /// ECONNABORTED if that was taken. EBADF, ENOTSOCK, EAFNOSUPPORT for a name of Unix, EADDRNOTAVAIL if none is free.
+    /// Nobody gets through to a listener yet: EINVAL. A connection and a TCP listener are EISCONN, a Unix listener
+    /// EINVAL, those of Unix behind ECONNREFUSED.
     Connect {
         fd: Fd,
         name: Name,
     },
-    /// accept4(2): the connection that waits longest, at the lowest free number. No kernel has one yet: EINVAL.
+    /// accept4(2): the connection that waits longest, at the lowest free number. None waits yet: EAGAIN. Before that
+    /// EBADF, EMFILE if no number is free, ENOTSOCK, ENFILE if no description is left, EINVAL if it doesn't listen.
     Accept {
         fd: Fd,
         cloexec: bool,

@@ -1,17 +1,17 @@
 -- Calls on the tables alone: what refuses each, in order, its answer, and the files after it.
-use Rattle.std.specs.Prelude.{Bool, List, [], length, nat_le, not, true, ℕ, ℤ, ◌||◌, ◌∷◌}
+use Rattle.std.specs.Prelude.{Bool, List, [], length, nat_le, not, true, ℕ, ℤ, ◌++◌, ◌||◌, ◌∷◌}
 use Rattle.ep_base.specs.Limits.{Limits}
 use Rattle.ep_base.specs.declared.answer.Answer.{Answer}
 use Rattle.ep_base.specs.declared.answer.Answer.TheVariants.{Done, Num}
 use Rattle.ep_base.specs.declared.call.Call.{Call}
-use Rattle.ep_base.specs.declared.call.Call.TheVariants.{Accept, Close, Dup, Dup2, EpollCreate, EventFd, Exec, Exit, Fork, Listen}
+use Rattle.ep_base.specs.declared.call.Call.TheVariants.{Accept, Close, Dup, Dup2, EpollCreate, EventFd, Exec, Exit, Fork}
 use Rattle.ep_base.specs.declared.call.Call.TheVariants.{Pipe as PipeCall, Plain, Socket, SocketPair, TimerFd}
 use Rattle.ep_base.specs.declared.errno.Errno.{Errno}
 use Rattle.ep_base.specs.declared.errno.Errno.TheVariants.{Eagain, Ebadf, Ebusy, Einval, Emfile}
 use Rattle.ep_base.specs.declared.socket.Family.{Family}
-use Rattle.ep_machine.specs.Files.{Files, named_by, names_nothing, numbers_of}
+use Rattle.ep_machine.specs.Files.{Files, named_by, names_nothing, numbers_of, object_under}
 use Rattle.ep_machine.specs.Lists.{numbered}
-use Rattle.ep_machine.specs.Objects.{Object, counter, idle, instance, pair, pipe, plain, timer}
+use Rattle.ep_machine.specs.Objects.{Object, counter, idle, instance, is_listener, of_socket, pair, pipe, plain, timer}
 use Rattle.ep_machine.specs.Pipe.{new_pipe}
 use Rattle.ep_machine.specs.Sockets.{new_pair}
 use Rattle.ep_machine.specs.Tables.{answer_one, answer_two, close, create_one, create_two, dup, dup2, exec}
@@ -90,9 +90,17 @@ exec_of s p busy = record { refusals = (busy, Ebusy) ∷ []; answer = Done; afte
 abbrev pub exit_of : Files → ℕ → Bool → FilesCall
 exit_of s p busy = record { refusals = (busy, Ebusy) ∷ []; answer = Done; after = exit s p }
 
--- Nobody listens yet: those calls are refused.
-abbrev pub refused_of : Files → FilesCall
-refused_of s = record { refusals = (true, Einval) ∷ []; answer = Done; after = s }
+-- Nothing waits at a listener yet. Linux tells of a full table before it looks at what the descriptor names.
+abbrev pub accept_of : Limits → Files → ℕ → ℤ → FilesCall
+accept_of limits s p fd =
+    let x = object_under s p fd in record {
+      refusals =
+          (names_nothing s p fd, Ebadf)
+          ∷ (nat_le limits.descriptors (one_free (numbers_of s p)), Emfile)
+          ∷ of_socket x (one_refusals limits s p ++ (not (is_listener x), Einval) ∷ (true, Eagain) ∷ []);
+      answer = Done;
+      after = s;
+    }
 
 -- a call on the tables alone; any other does nothing here
 abbrev pub files_call : Limits → Files → ℕ → Bool → Call → FilesCall
@@ -109,6 +117,5 @@ files_call limits s p busy Fork = fork_of limits s p
 files_call limits s p busy Exec = exec_of s p busy
 files_call limits s p busy Exit = exit_of s p busy
 files_call limits s p busy (Socket family cloexec) = socket_of limits s p family cloexec
-files_call limits s p busy (Listen fd backlog) = refused_of s
-files_call limits s p busy (Accept fd cloexec) = refused_of s
+files_call limits s p busy (Accept fd cloexec) = accept_of limits s p fd.0
 files_call limits s p busy call = record { refusals = []; answer = Done; after = s }

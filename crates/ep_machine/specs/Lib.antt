@@ -6,6 +6,7 @@ pub mod Pipe
 pub mod Sockets
 pub mod Names
 pub mod Unconnected
+pub mod Listening
 pub mod Counters
 pub mod Timer
 pub mod Objects

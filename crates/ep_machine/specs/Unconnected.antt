@@ -1,4 +1,4 @@
--- Sockets without a connection: a name, and a connect that found nobody.
+-- Sockets without a connection that don't listen: a name, and a connect that found nobody.
 use Rattle.std.specs.Prelude.{Bool, List, None, Option, Some, [], false, if◌then◌else◌, is_none, is_some, nat_lt, not, true, unwrap_or, ℕ}
 use Rattle.std.specs.Prelude.{◌&&◌, ◌++◌, ◌||◌, ◌∷◌}
 use Rattle.ep_base.specs.declared.answer.Answer.TheVariants.{Bytes, Connecting, Done, Failed, Named, Num}
@@ -87,18 +87,17 @@ abbrev pub name_or : Option Name → Option Name → Option Name
 name_or (Some name) found = Some name
 name_or None found = found
 
--- nobody listens: of Unix it is told at once
-abbrev pub unheard_refusals : Space → List (Bool × Errno)
-unheard_refusals space = family_refusals families.Unix space ++ (true, Econnrefused) ∷ []
-
-abbrev pub connect_refusals_of : Family → Idle → Space → Option Name → List (Bool × Errno)
-connect_refusals_of families.Unix x space found = unheard_refusals space
-connect_refusals_of families.Tcp x space found =
+-- Nobody listens: of Unix it is told at once. Where somebody listens nobody gets through yet, and that is refused.
+abbrev pub connect_refusals_of : Family → Idle → Space → Option Name → Bool → List (Bool × Errno)
+connect_refusals_of families.Unix x space found heard =
+    family_refusals families.Unix space ++ (not heard, Econnrefused) ∷ (true, Einval) ∷ []
+connect_refusals_of families.Tcp x space found heard =
     (not x.has_failed && not (fits_family families.Tcp space), Eafnosupport)
-    ∷ (not x.has_failed && is_none (name_or x.name found), Eaddrnotavail) ∷ []
+    ∷ (not x.has_failed && is_none (name_or x.name found), Eaddrnotavail)
+    ∷ (not x.has_failed && heard, Einval) ∷ []
 
-abbrev pub idle_connect_refusals : Idle → Space → Option Name → List (Bool × Errno)
-idle_connect_refusals x space found = connect_refusals_of x.family x space found
+abbrev pub idle_connect_refusals : Idle → Space → Option Name → Bool → List (Bool × Errno)
+idle_connect_refusals x space found heard = connect_refusals_of x.family x space found heard
 
 -- TCP has failed when the call returns, tells so once, and then the socket is fresh again.
 abbrev pub idle_connect : Idle → Option Name → Effect Idle

@@ -4,8 +4,8 @@
 //! A reader believes the files of `specs/`, in this order:
 //!
 //! 1. `Lists`, `Bits`, `Counts`: words on lists, sets of bits, and how often each bit arrived.
-//! 2. `Effect`, `Pipe`, `Sockets`, `Names`, `Unconnected`, `Counters`, `Timer`, `Objects`: the seven kinds of object,
-//!    and what a call on one gives.
+//! 2. `Effect`, `Pipe`, `Sockets`, `Names`, `Unconnected`, `Listening`, `Counters`, `Timer`, `Objects`: the eight
+//!    kinds of object, and what a call on one gives.
 //! 3. `Files`, `State`: descriptors, open file descriptions and objects; the whole state.
 //! 4. `Readiness`: what holds at a description, and what is reportable.
 //! 5. `Tables`, `Watches`, `FilesCalls`, `Report`, `Waits`: what each call changes; of a call on the tables alone

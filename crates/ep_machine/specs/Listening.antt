@@ -1,0 +1,54 @@
+-- Sockets that listen. Nobody gets through to one yet, so nothing waits there to be accepted.
+use Rattle.std.specs.Prelude.{Bool, List, Option, [], is_none, min, nat_lt, negsuc, not, pos, true, ℕ, ℤ, ◌&&◌, ◌++◌, ◌∷◌}
+use Rattle.ep_base.specs.declared.errno.Errno.{Errno}
+use Rattle.ep_base.specs.declared.errno.Errno.TheVariants.{Eaddrinuse, Econnrefused, Einval, Eisconn}
+use Rattle.ep_base.specs.declared.socket.Family.{Family}
+use Rattle.ep_base.specs.declared.socket.Family.TheVariants as families
+use Rattle.ep_base.specs.declared.socket.Name.{Name}
+use Rattle.ep_base.specs.declared.socket.Space.{Space}
+use Rattle.ep_machine.specs.Lists.{is_empty}
+use Rattle.ep_machine.specs.Sockets.{is_tcp}
+use Rattle.ep_machine.specs.Unconnected.{Idle, family_refusals, name_or, unread_error, unwritten_error}
+
+pub record Listener : Type 0 where
+  pub family : Family
+  pub name : Name
+  pub backlog : ℕ
+
+-- as many may wait; a negative number asks for the most
+abbrev pub greatest_backlog : ℕ
+greatest_backlog = 4096
+
+abbrev pub backlog_of : ℤ → ℕ
+backlog_of (pos k) = min k greatest_backlog
+backlog_of (negsuc k) = greatest_backlog
+
+-- Listening, by a socket that has a name or, of TCP, gets the one that was found free.
+abbrev pub idle_listen_refusals : Idle → Option Name → List (Bool × Errno)
+idle_listen_refusals x found =
+    (x.has_failed, Einval)
+    ∷ (not (is_tcp x.family) && is_none x.name, Einval)
+    ∷ (is_none (name_or x.name found), Eaddrinuse) ∷ []
+
+abbrev pub new_listener : Family → Name → ℤ → Listener
+new_listener family name backlog = record { family = family; name = name; backlog = backlog_of backlog }
+
+-- A listener once more: what may wait there is another number.
+abbrev pub listener_listen : Listener → ℤ → Listener
+listener_listen x backlog = record x { backlog = backlog_of backlog }
+
+-- Nothing ever comes to it, or goes from it.
+abbrev pub listener_read_refusals : Listener → ℕ → List (Bool × Errno)
+listener_read_refusals x n = (nat_lt 0 n, unread_error x.family) ∷ []
+
+abbrev pub listener_write_refusals : Listener → List ℕ → List (Bool × Errno)
+listener_write_refusals x bytes = (not (is_empty bytes), unwritten_error x.family) ∷ []
+
+abbrev pub listener_bind_refusals : Listener → Space → List (Bool × Errno)
+listener_bind_refusals x space = family_refusals x.family space ++ (true, Einval) ∷ []
+
+-- It connects to nobody. Whether anybody listens at the name is told first of Unix.
+abbrev pub listener_connect_refusals : Family → Space → Bool → List (Bool × Errno)
+listener_connect_refusals families.Unix space heard =
+    family_refusals families.Unix space ++ (not heard, Econnrefused) ∷ (true, Einval) ∷ []
+listener_connect_refusals families.Tcp space heard = (true, Eisconn) ∷ []
