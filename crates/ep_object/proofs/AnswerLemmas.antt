@@ -12,7 +12,7 @@ use Rattle.ep_base.specs.declared.object.End.TheVariants.{First, Second}
 use Rattle.ep_machine.specs.Effect.{first}
 use Rattle.ep_machine.specs.Lists.{is_empty}
 use Rattle.ep_machine.specs.Effect.{Effect}
-use Rattle.ep_machine.specs.Objects.{Object, ObjectCall, connect, connects, counter, idle, instance, object_effect, object_refusals, of_socket, pair, peek, peeks, pipe, plain, read, read_refusals, reads, write, writes}
+use Rattle.ep_machine.specs.Objects.{Object, ObjectCall, connect, connects, counter, idle, instance, listener, object_effect, object_refusals, of_socket, pair, peek, peeks, pipe, plain, read, read_refusals, reads, write, writes}
 use Rattle.ep_machine.specs.Objects.{timer}
 use Rattle.ep_machine.specs.Sockets.{SocketPair, comes_back, comes_no_more, failed, fails_reading, fails_writing, own, peer, wants_more}
 use Rattle.ep_machine.specs.Timer.{unread}
@@ -48,6 +48,7 @@ read_few (pipe p) First n now h = taken_few n p.bytes
 read_few (pipe p) Second n now h = absurd (none-some _ (sym h))
 read_few (pair p) e n now h = pair_few p e n _ refl
 read_few (idle i) e n now h = by_read i (λ f. GivesAtMost (min n (max 16 0)) f.0) (λ e. tt) n (omega arith)
+read_few (listener l) e n now h = omega arith
 read_few (counter c) e n now h = number_few n ((c.count == 0, Eagain) ∷ []) h
 read_few (timer t) e n now h = number_few n ((unread t now == 0, Eagain) ∷ []) h
 read_few instance e n now h = tt
@@ -55,6 +56,7 @@ read_few instance e n now h = tt
 peek_few : (x : Object) (e : End) (n now : ℕ) → first (of_socket x (read_refusals x e n now)) ≡ None → GivesAtMost (min n (max 16 (object_waiting x e (peeks n)))) (peek x e n).0
 peek_few (pair p) e n now h = pair_few p e n _ refl
 peek_few (idle i) e n now h = by_read i (λ f. GivesAtMost (min n (max 16 0)) f.0) (λ e. tt) n (omega arith)
+peek_few (listener l) e n now h = omega arith
 peek_few x e n now h = tt
 
 -- a write is answered by a number, or by the error that waited, of whatever kind the object is
@@ -64,6 +66,7 @@ by_write P number fails done (pair p) e bytes =
       one_of : (b : Bool) (f g : Effect SocketPair) → P f.0 → P g.0 → P (if b then f else g).0
       one_of b f g = either (λ (h : Effect SocketPair). P h.0) b f g
 by_write P number fails done (idle i) e bytes = by_idle_write i (λ f. P f.0) fails bytes (number _)
+by_write P number fails done (listener l) e bytes = number _
 by_write P number fails done plain e bytes = number _
 by_write P number fails done (pipe p) e bytes = number _
 by_write P number fails done (counter c) e bytes = number _
@@ -81,7 +84,7 @@ pub gives_few : (x : Object) (e : End) (now : ℕ) (asked : ObjectCall) → firs
 gives_few x e now (reads n) h = read_few x e n now h
 gives_few x e now (peeks n) h = peek_few x e n now h
 gives_few x e now (writes bytes) h = write_few x e bytes _
-gives_few x e now (connects space found) h = connect_few x found _
+gives_few x e now (connects space found heard) h = connect_few x found _
 gives_few plain e now asked h = tt
 gives_few x e now asked h = tt
 

@@ -1,9 +1,9 @@
 -- The law of what objects raise, from the laws of the kinds.
-use Rattle.std.proofs.Common.{Bool, List, None, Option, Some, [], ℕ, ◌∷◌}
+use Rattle.std.proofs.Common.{refl, Bool, List, None, Option, Some, [], ℕ, ◌∷◌, ℤ}
 use Rattle.std.proofs.lemmas.Bool.{false≢true}
 use Rattle.std.specs.Prelude.{not}
 use Rattle.ep_base.specs.declared.errno.Errno.{Errno}
-use Rattle.ep_base.specs.declared.answer.Answer.TheVariants.{Done}
+use Rattle.ep_base.specs.declared.answer.Answer.TheVariants.{Done, Bytes, Named, Num}
 use Rattle.ep_base.specs.declared.errno.Errno.TheVariants.{Einval, Enotconn}
 use Rattle.ep_base.specs.declared.object.End.TheVariants.{First, Second}
 use Rattle.ep_base.specs.declared.object.End.{End}
@@ -16,7 +16,7 @@ use Rattle.ep_counters.specs.Law.{CounterReadLaw, CounterWriteLaw, NextTellsAdva
 use Rattle.ep_machine.specs.Bits.{IsCovered, at_end, nothing}
 use Rattle.ep_machine.specs.Counters.{counter_present, counter_read, counter_read_refusals, counter_write, counter_write_refusals}
 use Rattle.ep_machine.specs.Effect.{Effect, attempt, first, unless}
-use Rattle.ep_machine.specs.Objects.{Object, asks_name, asks_time, bind, bind_refusals, binds, connect, connect_refusals, connects, counter, effect_on}
+use Rattle.ep_machine.specs.Objects.{Object, asks_name, asks_time, bind, bind_refusals, binds, connect, connect_refusals, connects, counter, effect_on, listener, listens, listen_refusals, listening, listen}
 use Rattle.ep_machine.specs.Objects.{gettime, idle, instance, is_timer, name_of, name_refusals, object_present}
 use Rattle.ep_machine.specs.Objects.{of_socket, pair, peek, peeks, pipe, plain, read, read_refusals, reads, sets_time, settime, shutdown, shutdown_refusals}
 use Rattle.ep_machine.specs.Objects.{shuts_down, take_error, takes_error, timer, write, write_refusals, writes}
@@ -24,12 +24,13 @@ use Rattle.ep_machine.specs.Pipe.{pipe_present, pipe_read, pipe_read_refusals, p
 use Rattle.ep_machine.specs.Sockets.{pair_name, pair_name_refusals, pair_peek, pair_present, pair_read, pair_read_refusals, pair_shut_refusals, pair_shutdown}
 use Rattle.ep_machine.specs.Sockets.{pair_write, pair_write_refusals}
 use Rattle.ep_machine.specs.Timer.{timer_present, timer_read, timer_read_refusals, timer_set_refusals, timer_settime}
-use Rattle.ep_machine.specs.Unconnected.{Idle, idle_bind, idle_bind_refusals, idle_connect, idle_connect_refusals, idle_name, idle_present, idle_read}
+use Rattle.ep_machine.specs.Unconnected.{Idle, idle_bind, idle_bind_refusals, idle_connect, idle_connect_refusals, idle_name, idle_present, idle_read, name_or}
 use Rattle.ep_machine.specs.Unconnected.{idle_read_refusals, idle_take_error, idle_write, idle_write_refusals}
 use Rattle.ep_object.proofs.IdleLemmas.{Raises, connect_raises, read_raises, stays_raises, take_raises, unless_raises, write_raises}
 use Rattle.ep_object.specs.Law.{AdvanceLaw, ApplyLaw, CloseLaw, is_first, object_has, present_at}
 use Rattle.ep_stream.proofs.Arrivals.{attempted, unchanged}
 use Rattle.ep_stream.specs.Law.{PairCloseLaw, PairErrorLaw, PairPeekLaw, PairReadLaw, PairShutdownLaw, PairWriteLaw, PipeCloseLaw, PipeReadLaw, PipeWriteLaw, RaisesArrivals, pair_has}
+use Rattle.ep_machine.specs.Listening.{listener_read_refusals, listener_write_refusals, idle_listen_refusals}
 
 -- what an event leaves as it was raises enough
 stays : (now : ℕ) (x : Object) (raised : Raised) → RaisesArrivals object_has (present_at now) x x raised
@@ -67,6 +68,7 @@ read_law pipes pairs counters timers e n now plain = stays now plain nothing
 read_law pipes pairs counters timers e n now (pipe p) = within pipe now p (pipe_read p n) (first (pipe_read_refusals p e n)) (pipes p e n)
 read_law pipes pairs counters timers e n now (pair p) = within pair now p (pair_read p e n) (first (pair_read_refusals p e n)) (pairs p e n)
 read_law pipes pairs counters timers e n now (idle i) = idle_law now i (idle_read_refusals i n) (idle_read i n) (read_raises i n)
+read_law pipes pairs counters timers e n now (listener l) = kept_law now (listener l) (Bytes []) (first (listener_read_refusals l n))
 read_law pipes pairs counters timers e n now (counter c) =
     let made = attempt (counter_read_refusals c n) c (counter_read c) in
     within counter now c (counter_read c) (first (counter_read_refusals c n)) (alone counter_present c made.1 made.2 (counters c n))
@@ -79,6 +81,7 @@ write_law : PipeWriteLaw → PairWriteLaw → CounterWriteLaw → (e : End) (byt
 write_law pipes pairs counters e bytes now (pipe p) = within pipe now p (pipe_write p bytes) (first (pipe_write_refusals p e bytes)) (pipes p e bytes)
 write_law pipes pairs counters e bytes now (pair p) = within pair now p (pair_write p e bytes) (first (pair_write_refusals p e bytes)) (pairs p e bytes)
 write_law pipes pairs counters e bytes now (idle i) = idle_law now i (idle_write_refusals i bytes) (idle_write i bytes) (write_raises i bytes)
+write_law pipes pairs counters e bytes now (listener l) = kept_law now (listener l) (Num 0) (first (listener_write_refusals l bytes))
 write_law pipes pairs counters e bytes now (counter c) =
     let made = attempt (counter_write_refusals c bytes) c (counter_write c bytes) in
     within counter now c (counter_write c bytes) (first (counter_write_refusals c bytes)) (alone counter_present c made.1 made.2 (counters c bytes))
@@ -88,6 +91,7 @@ write_law pipes pairs counters e bytes now x = stays now x nothing
 peek_law : PairPeekLaw → (e : End) (n now : ℕ) → CallLaw (λ x. of_socket x (read_refusals x e n now)) (λ x. peek x e n) now
 peek_law pairs e n now (pair p) = within pair now p (pair_peek p e n) (first (pair_read_refusals p e n)) (pairs p e n)
 peek_law pairs e n now (idle i) = idle_law now i (idle_read_refusals i n) (idle_read i n) (read_raises i n)
+peek_law pairs e n now (listener l) = kept_law now (listener l) (Bytes []) (first (of_socket (listener l) (read_refusals (listener l) e n now)))
 peek_law pairs e n now x = stays now x nothing
 
 shutdown_law : PairShutdownLaw → (e : End) (how : How) (now : ℕ) → CallLaw (λ x. of_socket x (shutdown_refusals x e)) (λ x. shutdown x e how) now
@@ -104,17 +108,37 @@ name_law : (e : End) (of_peer : Bool) (now : ℕ) → CallLaw (λ x. of_socket x
 name_law e of_peer now (pair p) =
     within pair now p (pair_name p e of_peer) (first (pair_name_refusals p e of_peer)) (attempted pair_has pair_present p (pair_name p e of_peer) (pair_name_refusals p e of_peer) (λ o before after. unchanged (pair_present p o) (at_end nothing o)))
 name_law e of_peer now (idle i) = idle_law now i ((of_peer, Enotconn) ∷ []) (idle_name i) (stays_raises i)
+name_law e of_peer now (listener l) = kept_law now (listener l) (Named (Some l.name)) (first (of_socket (listener l) (name_refusals (listener l) e of_peer)))
 name_law e of_peer now x = stays now x nothing
 
 bind_law : (space : Space) (found : Option Name) (now : ℕ) → CallLaw (λ x. of_socket x (bind_refusals x space found)) (λ x. bind x found) now
 bind_law space found now (pair p) = kept_law now (pair p) Done (first (of_socket (pair p) (bind_refusals (pair p) space found)))
 bind_law space found now (idle i) = idle_law now i (idle_bind_refusals i space found) (idle_bind i found) (stays_raises i)
+bind_law space found now (listener l) = kept_law now (listener l) Done (first (of_socket (listener l) (bind_refusals (listener l) space found)))
 bind_law space found now x = stays now x nothing
 
-connect_law : (space : Space) (found : Option Name) (now : ℕ) → CallLaw (λ x. of_socket x (connect_refusals x space found)) (λ x. connect x found) now
-connect_law space found now (pair p) = kept_law now (pair p) Done (first (of_socket (pair p) (connect_refusals (pair p) space found)))
-connect_law space found now (idle i) = idle_law now i (idle_connect_refusals i space found) (idle_connect i found) (connect_raises i found)
-connect_law space found now x = stays now x nothing
+-- where nothing holds afterwards, nothing has begun
+none_begin : (before raised : ℕ) → IsCovered before 0 raised
+none_begin before raised = refl
+
+-- a listener shows nothing, so nothing begins to hold where a socket comes to listen
+listens_law : (now : ℕ) (i : Idle) (backlog : ℤ) (name : Option Name) (refusal : Option Errno) → let made = unless refusal (idle i) (Done, listening i backlog name, nothing) in
+    RaisesArrivals object_has (present_at now) (idle i) made.1 made.2
+listens_law now i backlog name (Some e) = stays now (idle i) nothing
+listens_law now i backlog None None = stays now (idle i) nothing
+listens_law now i backlog (Some name) None = λ e before after. none_begin (idle_present i) (at_end nothing e)
+
+listen_law : (backlog : ℤ) (found : Option Name) (now : ℕ) → CallLaw (λ x. of_socket x (listen_refusals x found)) (λ x. listen x backlog found) now
+listen_law backlog found now (pair p) = kept_law now (pair p) Done (first (of_socket (pair p) (listen_refusals (pair p) found)))
+listen_law backlog found now (idle i) = listens_law now i backlog (name_or i.name found) (first (idle_listen_refusals i found))
+listen_law backlog found now (listener l) = λ e before after. unchanged 0 (at_end nothing e)
+listen_law backlog found now x = stays now x nothing
+
+connect_law : (space : Space) (found : Option Name) (heard : Bool) (now : ℕ) → CallLaw (λ x. of_socket x (connect_refusals x space found heard)) (λ x. connect x found) now
+connect_law space found heard now (pair p) = kept_law now (pair p) Done (first (of_socket (pair p) (connect_refusals (pair p) space found heard)))
+connect_law space found heard now (idle i) = idle_law now i (idle_connect_refusals i space found heard) (idle_connect i found) (connect_raises i found)
+connect_law space found heard now (listener l) = kept_law now (listener l) Done (first (of_socket (listener l) (connect_refusals (listener l) space found heard)))
+connect_law space found heard now x = stays now x nothing
 
 settime_law : TimerSettimeLaw → (absolute : Bool) (value interval now : ℕ) → CallLaw (λ x. (not (is_timer x), Einval) ∷ timer_set_refusals value interval) (λ x. settime x absolute value interval now) now
 settime_law timers absolute value interval now (timer t) =
@@ -153,7 +177,8 @@ apply_law kinds x e now (shuts_down how) = shutdown_law kinds.pair_shutdown e ho
 apply_law kinds x e now takes_error = error_law kinds.pair_error e now x
 apply_law kinds x e now (asks_name of_peer) = name_law e of_peer now x
 apply_law kinds x e now (binds space found) = bind_law space found now x
-apply_law kinds x e now (connects space found) = connect_law space found now x
+apply_law kinds x e now (listens backlog found) = listen_law backlog found now x
+apply_law kinds x e now (connects space found heard) = connect_law space found heard now x
 apply_law kinds x e now (sets_time absolute value interval) = settime_law kinds.timer_settime absolute value interval now x
 apply_law kinds x e now asks_time = gettime_law now x
 
@@ -168,6 +193,7 @@ advance_law timers plain old new e has = unchanged 0 0
 advance_law timers (pipe p) old new e has = unchanged (pipe_present p e) _
 advance_law timers (pair p) old new e has = unchanged (pair_present p e) _
 advance_law timers (idle i) old new e has = unchanged (idle_present i) _
+advance_law timers (listener l) old new e has = unchanged 0 0
 advance_law timers (counter c) old new e has = unchanged (counter_present c) _
 advance_law timers (timer t) old new First has = timers t old new
 advance_law timers (timer t) old new Second has = absurd (false≢true has)

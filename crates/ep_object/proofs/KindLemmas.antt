@@ -1,5 +1,5 @@
 -- What calls and closes keep of an object: its kind, and the ends that it has.
-use Rattle.std.proofs.Common.{◌≡◌, ◌≢◌, ◌==◌, ◌&&◌, ◌∙◌, ℕ, Bool, true, List, Some, ap, not, refl, sym}
+use Rattle.std.proofs.Common.{◌≡◌, ◌≢◌, ◌==◌, ◌&&◌, ◌∙◌, ℕ, Bool, true, List, None, Some, ap, not, refl, sym, ℤ, Option}
 use Rattle.ep_base.specs.declared.object.End.{End}
 use Rattle.ep_base.specs.declared.object.End.TheVariants.{First, Second}
 use Rattle.std.specs.Prelude.{if◌then◌else◌}
@@ -7,18 +7,25 @@ use Rattle.ep_base.specs.declared.errno.Errno.TheVariants.{Econnreset}
 use Rattle.ep_base.specs.declared.socket.How.{How}
 use Rattle.ep_machine.specs.Effect.{Effect}
 use Rattle.ep_machine.specs.Lists.{is_empty}
-use Rattle.ep_machine.specs.Objects.{Object, ObjectCall, close_end, instance, is_instance, is_plain, object_effect, pair, peek, peeks, pipe, plain, read, reads}
+use Rattle.ep_machine.specs.Objects.{Object, ObjectCall, close_end, instance, is_instance, is_plain, object_effect, pair, peek, peeks, pipe, plain, read, reads, idle, listens, listen, listening}
 use Rattle.ep_machine.specs.Objects.{shutdown, shuts_down, take_error, takes_error, write, writes}
 use Rattle.ep_machine.specs.Sockets.{Socket, SocketPair, comes_back, failed, fails_reading, fails_writing, loses, sent, sent_back, wants_more}
 use Rattle.ep_object.specs.Kinds.{kind_number}
-use Rattle.ep_object.specs.Law.{object_has}
+use Rattle.ep_object.specs.Law.{object_has, is_first}
 use Rattle.ep_stream.proofs.PairClosed.{by_first_close, either, pair_closed_twice}
 use Rattle.ep_stream.specs.Law.{pair_has}
+use Rattle.ep_machine.specs.Unconnected.{Idle, name_or}
+use Rattle.ep_base.specs.declared.socket.Name.{Name}
 
 -- Kinds.
+listening_kind : (i : Idle) (backlog : ℤ) (name : Option Name) → kind_number (listening i backlog name) ≡ 6
+listening_kind i backlog None = refl
+listening_kind i backlog (Some name) = refl
+
 pub call_keeps_kind : (x : Object) (e : End) (now : ℕ) (asked : ObjectCall) → kind_number (object_effect x e now asked).1 ≡ kind_number x
 call_keeps_kind plain e now (reads n) = refl
 call_keeps_kind plain e now asked = refl
+call_keeps_kind (idle i) e now (listens backlog found) = listening_kind i backlog (name_or i.name found)
 call_keeps_kind x e now (reads n) = refl
 call_keeps_kind x e now asked = refl
 
@@ -121,12 +128,21 @@ error_has : (x : Object) (e s : End) → object_has (take_error x e).1 s ≡ obj
 error_has (pair p) e s = failed_has p e s
 error_has x e s = refl
 
+listening_has : (i : Idle) (backlog : ℤ) (name : Option Name) (s : End) → object_has (listening i backlog name) s ≡ is_first s
+listening_has i backlog None s = refl
+listening_has i backlog (Some name) s = refl
+
+listen_has : (x : Object) (backlog : ℤ) (found : Option Name) (s : End) → object_has (listen x backlog found).1 s ≡ object_has x s
+listen_has (idle i) backlog found s = listening_has i backlog (name_or i.name found) s
+listen_has x backlog found s = refl
+
 pub effect_has : (x : Object) (e : End) (now : ℕ) (asked : ObjectCall) (s : End) → object_has (object_effect x e now asked).1 s ≡ object_has x s
 effect_has x e now (reads n) s = read_has x e n now s
 effect_has x e now (writes bytes) s = write_has x e bytes s
 effect_has x e now (peeks n) s = peek_has x e n s
 effect_has x e now (shuts_down how) s = shutdown_has x e how s
 effect_has x e now takes_error s = error_has x e s
+effect_has x e now (listens backlog found) s = listen_has x backlog found s
 effect_has plain e now asked s = refl
 effect_has x e now asked s = refl
 

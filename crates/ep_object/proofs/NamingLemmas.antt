@@ -1,15 +1,19 @@
 -- Only a bind and a connect give a name, and only a socket without a connection gets one. No close takes it.
-use Rattle.std.proofs.Common.{◌≡◌, ◌==◌, ◌∙◌, Bool, List, None, Option, Some, ap, false, refl, sym, ℕ}
+use Rattle.std.proofs.Common.{◌≡◌, ◌==◌, ◌∙◌, None, Option, Some, ap, false, refl, sym, ℕ, ℤ}
 use Rattle.ep_base.specs.declared.errno.Errno.{Errno}
 use Rattle.ep_base.specs.declared.object.End.{End}
 use Rattle.ep_base.specs.declared.socket.Name.{Name}
-use Rattle.ep_machine.specs.Effect.{Effect, first, unless}
-use Rattle.ep_machine.specs.Objects.{Object, ObjectCall, asks_name, asks_time, close_end, idle, name_in, object_effect, object_refusals, peeks, plain, reads, sets_time, shuts_down, takes_error, writes}
-use Rattle.ep_machine.specs.Unconnected.{Idle, idle_read, idle_write}
+use Rattle.ep_machine.specs.Effect.{Effect, attempt, first, unless}
+use Rattle.ep_machine.specs.Objects.{Object, ObjectCall, listen, listens, asks_name, asks_time, close_end, idle, name_in, object_effect, object_refusals, peeks, plain, reads, sets_time, shuts_down, takes_error, writes, is_idle, listener}
+use Rattle.ep_machine.specs.Unconnected.{Idle}
 use Rattle.ep_object.proofs.IdleLemmas.{by_read, by_write}
 use Rattle.ep_object.proofs.KindLemmas.{call_keeps_kind}
 use Rattle.ep_object.specs.Kinds.{kind_number}
-use Rattle.ep_object.specs.Naming.{NamesNobody, called}
+use Rattle.ep_object.specs.Naming.{Gains, NamesNobody, called}
+use Rattle.ep_base.specs.declared.call.Call.{Call}
+use Rattle.ep_base.specs.declared.call.Call.TheVariants.{Read}
+use Rattle.ep_machine.specs.Listening.{idle_listen_refusals, Listener}
+use Rattle.ep_object.specs.Asked.{asked_in, plain_call}
 
 after : (refusal : Option Errno) (x : Object) (f : Effect Object) → name_in f.1 ≡ name_in x → name_in (unless refusal x f).1 ≡ name_in x
 after None x f h = h
@@ -17,14 +21,27 @@ after (Some e) x f h = refl
 
 nameless : (x : Object) → (kind_number x == 6) ≡ false → name_in x ≡ None
 nameless (idle i) h = cc
+nameless (listener l) h = cc
 nameless x h = refl
 
--- any other object has none
-pub other_object : (x : Object) (e : End) (now : ℕ) (asked : ObjectCall) → (kind_number x == 6) ≡ false → name_in (called x e now asked) ≡ name_in x
-other_object x e now asked h =
+-- what is no socket without a connection has none
+of_another : (x : Object) (e : End) (now : ℕ) (asked : ObjectCall) → (kind_number x == 6) ≡ false → name_in (called x e now asked) ≡ name_in x
+of_another x e now asked h =
     let y = (object_effect x e now asked).1 in
     after (first (object_refusals x e now asked)) x (object_effect x e now asked)
     (nameless y (ap (λ (k : ℕ). k == 6) (call_keeps_kind x e now asked) ∙ h) ∙ sym (nameless x h))
+
+-- a listener keeps its own
+listener_keeps : (l : Listener) (e : End) (now : ℕ) (asked : ObjectCall) → name_in (object_effect (listener l) e now asked).1 ≡ Some l.name
+listener_keeps l e now (reads n) = refl
+listener_keeps l e now asked = refl
+
+-- so only a socket that doesn't listen gets one
+pub other_object : (x : Object) (e : End) (now : ℕ) (asked : ObjectCall) → is_idle x ≡ false → name_in (called x e now asked) ≡ name_in x
+other_object (idle i) e now asked h = cc
+other_object (listener l) e now asked h =
+    after (first (object_refusals (listener l) e now asked)) (listener l) (object_effect (listener l) e now asked) (listener_keeps l e now asked)
+other_object x e now asked h = of_another x e now asked refl
 
 effect_keeps : (i : Idle) (e : End) (now : ℕ) (asked : ObjectCall) → NamesNobody asked → name_in (object_effect (idle i) e now asked).1 ≡ i.name
 effect_keeps i e now (reads n) h = by_read i (λ f. f.1.name ≡ i.name) (λ x. refl) n refl
@@ -37,8 +54,24 @@ effect_keeps i e now (sets_time absolute value interval) h = refl
 effect_keeps i e now asks_time h = refl
 effect_keeps i e now asked h = absurd h
 
-pub other_call : (i : Idle) (e : End) (now : ℕ) (asked : ObjectCall) → NamesNobody asked → name_in (called (idle i) e now asked) ≡ i.name
+other_call : (i : Idle) (e : End) (now : ℕ) (asked : ObjectCall) → NamesNobody asked → name_in (called (idle i) e now asked) ≡ i.name
 other_call i e now asked h = after (first (object_refusals (idle i) e now asked)) (idle i) (object_effect (idle i) e now asked) (effect_keeps i e now asked h)
+
+-- what a listen gives a socket it gives the object that is one
+pub listening_gained : (x : Object) (asked : ObjectCall) (i : Idle) (backlog : ℤ) (found gained : Option Name) → idle i ≡ x → listens backlog found ≡ asked
+    → Gains (idle i) (attempt (idle_listen_refusals i found) (idle i) (listen (idle i) backlog found)).1 gained
+    → (e : End) (now : ℕ) → Gains x (called x e now asked) gained
+listening_gained x asked i backlog found gained is asks h e now = rw (← is, ← asks) h
+
+-- by a call that names nobody, no object gets one
+pub nobody_named : (x : Object) (e : End) (now : ℕ) (asked : ObjectCall) → NamesNobody asked → name_in (called x e now asked) ≡ name_in x
+nobody_named (idle i) e now asked h = other_call i e now asked h
+nobody_named x e now asked h = other_object x e now asked refl
+
+-- a call is such a one, unless it is a bind, a listen or a connect
+pub plain_names_nobody : (call : Call) → NamesNobody (asked_in (plain_call call))
+plain_names_nobody (Read fd n) = tt
+plain_names_nobody call = tt
 
 pub close_keeps_name : (x : Object) (e : End) → name_in (close_end x e).0 ≡ name_in x
 close_keeps_name plain e = refl

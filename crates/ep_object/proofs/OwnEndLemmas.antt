@@ -1,5 +1,5 @@
 -- A bit ends only at the end of an object on which a call is made.
-use Rattle.std.proofs.Common.{◌≡◌, ◌≢◌, ◌≤◌, ◌<◌, ◌+◌, ◌-◌, ◌/◌, ◌==◌, ◌++◌, ◌∙◌, ℕ, Bool, true, false, List, [], ◌∷◌, None, Option, Some, ap, arith, length, nat_lt, if◌then◌else◌, not, refl}
+use Rattle.std.proofs.Common.{◌≡◌, ◌≢◌, ◌≤◌, ◌<◌, ◌+◌, ◌-◌, ◌/◌, ◌==◌, ◌++◌, ◌∙◌, ℕ, Bool, true, false, List, [], ◌∷◌, None, Option, Some, ap, arith, length, nat_lt, if◌then◌else◌, not, refl, ℤ}
 use Rattle.std.specs.Prelude.{nat_le}
 use Rattle.std.proofs.lemmas.Bool.{false≢true}
 use Rattle.std.proofs.lemmas.Bool.Decides.{nat_tests}
@@ -14,7 +14,7 @@ use Rattle.ep_base.specs.declared.socket.Name.{Name}
 use Rattle.ep_machine.specs.Bits.{ERR, HUP, IN, OUT}
 use Rattle.ep_machine.specs.Effect.{Effect, attempt, first, unless}
 use Rattle.ep_machine.specs.Lists.{is_empty}
-use Rattle.ep_machine.specs.Objects.{Object, ObjectCall, asks_name, asks_time, bind, binds, close_end, connect, connects, gettime, idle, instance, name_of, object_effect, object_present, object_refusals, pair}
+use Rattle.ep_machine.specs.Objects.{Object, ObjectCall, asks_name, asks_time, bind, binds, close_end, connect, connects, gettime, idle, instance, name_of, object_effect, object_present, object_refusals, pair, listens, listen}
 use Rattle.ep_machine.specs.Objects.{peek, peeks, pipe, plain, read, read_refusals, reads, sets_time, settime, shutdown, shuts_down, take_error, takes_error, timer}
 use Rattle.ep_machine.specs.Objects.{write, write_refusals, writes}
 use Rattle.ep_machine.specs.Pipe.{Pipe, pipe_present, pipe_room, pipe_taken}
@@ -96,6 +96,11 @@ bind_stays : (x : Object) (found : Option Name) (o : End) (now : ℕ) → Shows 
 bind_stays (idle i) found o now = covers_self _ 0
 bind_stays x found o now = covers_self _ 0
 
+-- a socket that comes to listen has the called end alone
+listen_stays : (x : Object) (backlog : ℤ) (found : Option Name) (e o : End) (now : ℕ) → e ≢ o → object_has x e ≡ true → object_has x o ≡ true → Shows x (listen x backlog found).1 o now now
+listen_stays (idle i) backlog found e o now ne h k = one_end e o ne h k
+listen_stays x backlog found e o now ne h k = covers_self _ 0
+
 connect_stays : (x : Object) (found : Option Name) (e o : End) (now : ℕ) → e ≢ o → object_has x e ≡ true → object_has x o ≡ true → Shows x (connect x found).1 o now now
 connect_stays (idle i) found e o now ne h k = one_end e o ne h k
 connect_stays x found e o now ne h k = covers_self _ 0
@@ -117,8 +122,10 @@ call_stays x e o now (shuts_down how) ne h k = unless_stays (first (object_refus
 call_stays x e o now takes_error ne h k = unless_stays (first (object_refusals x e now takes_error)) x (take_error x e) o now (error_stays x e o now ne h k)
 call_stays x e o now (asks_name of_peer) ne h k = unless_stays (first (object_refusals x e now (asks_name of_peer))) x (name_of x e of_peer) o now (name_stays x e o of_peer now)
 call_stays x e o now (binds space found) ne h k = unless_stays (first (object_refusals x e now (binds space found))) x (bind x found) o now (bind_stays x found o now)
-call_stays x e o now (connects space found) ne h k =
-    unless_stays (first (object_refusals x e now (connects space found))) x (connect x found) o now (connect_stays x found e o now ne h k)
+call_stays x e o now (listens backlog found) ne h k =
+    unless_stays (first (object_refusals x e now (listens backlog found))) x (listen x backlog found) o now (listen_stays x backlog found e o now ne h k)
+call_stays x e o now (connects space found heard) ne h k =
+    unless_stays (first (object_refusals x e now (connects space found heard))) x (connect x found) o now (connect_stays x found e o now ne h k)
 call_stays x e o now (sets_time absolute value interval) ne h k =
     unless_stays (first (object_refusals x e now (sets_time absolute value interval))) x (settime x absolute value interval now) o now (settime_stays x e o absolute value interval now ne h k)
 call_stays x e o now asks_time ne h k = unless_stays (first (object_refusals x e now asks_time)) x (gettime x now) o now (gettime_stays x o now)

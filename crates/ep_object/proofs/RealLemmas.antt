@@ -1,5 +1,5 @@
 -- No call on an object is answered with want of memory.
-use Rattle.std.proofs.Common.{◌≡◌, ◌++◌, ◌∷◌, [], ℕ, Bool, List, Option, false, refl, true}
+use Rattle.std.proofs.Common.{◌≡◌, ◌++◌, ◌∷◌, [], ℕ, Bool, List, Option, false, refl, true, ℤ}
 use Rattle.std.specs.Prelude.{if◌then◌else◌, ◌&&◌}
 use Rattle.ep_base.specs.Answer.{is_no_memory}
 use Rattle.ep_base.specs.declared.answer.Answer.TheVariants.{Refused}
@@ -12,11 +12,12 @@ use Rattle.ep_base.specs.declared.socket.How.{How}
 use Rattle.ep_base.specs.declared.socket.Name.{Name}
 use Rattle.ep_base.specs.declared.socket.Space.{Space}
 use Rattle.ep_machine.specs.Effect.{Effect, attempt, first, unless}
-use Rattle.ep_machine.specs.Objects.{Object, ObjectCall, asks_name, asks_time, bind, bind_refusals, binds, connect, connect_refusals, connects, counter, idle, gettime, instance, name_of, name_refusals, object_effect, object_refusals, pair, peek, peeks, pipe, plain, read, read_refusals, reads, sets_time, settime, shutdown, shutdown_refusals, shuts_down, take_error, takes_error, timer, write, write_refusals, writes}
+use Rattle.ep_machine.specs.Objects.{Object, ObjectCall, asks_name, asks_time, bind, bind_refusals, binds, connect, connect_refusals, connects, counter, idle, gettime, instance, name_of, name_refusals, object_effect, object_refusals, pair, peek, peeks, pipe, plain, read, read_refusals, reads, sets_time, settime, shutdown, shutdown_refusals, shuts_down, take_error, takes_error, timer, write, write_refusals, writes, listen_refusals, listener, listens, listen}
 use Rattle.ep_machine.specs.Sockets.{SocketPair, failed, fails_reading, wants_more}
 use Rattle.ep_machine.specs.Unconnected.{Idle, connect_refusals_of, family_refusals, unread_error, unwritten_error}
 use Rattle.ep_object.proofs.AnswerLemmas.{by_write}
 use Rattle.ep_object.proofs.IdleLemmas.{by_connect, by_read}
+use Rattle.ep_machine.specs.Listening.{listener_connect_refusals}
 
 -- none of these errors is that
 abbrev AreReal : List (Bool × Errno) → Type 0
@@ -46,6 +47,7 @@ read_refusals_real (pipe p) First n now = (refl, tt)
 read_refusals_real (pipe p) Second n now = (refl, tt)
 read_refusals_real (pair p) e n now = (refl, tt)
 read_refusals_real (idle i) e n now = (read_error_real i.family, tt)
+read_refusals_real (listener l) e n now = (read_error_real l.family, tt)
 read_refusals_real (counter c) e n now = (refl, (refl, tt))
 read_refusals_real (timer t) e n now = (refl, (refl, tt))
 read_refusals_real instance e n now = (refl, tt)
@@ -58,6 +60,7 @@ write_refusals_real (pipe p) Second (b ∷ bs) = (refl, (refl, tt))
 write_refusals_real (pair p) e [] = tt
 write_refusals_real (pair p) e (b ∷ bs) = (refl, (refl, tt))
 write_refusals_real (idle i) e bytes = (write_error_real i.family, tt)
+write_refusals_real (listener l) e bytes = (write_error_real l.family, tt)
 write_refusals_real (counter c) e bytes = (refl, (refl, (refl, tt)))
 write_refusals_real (timer t) e bytes = (refl, tt)
 write_refusals_real instance e bytes = (refl, tt)
@@ -73,16 +76,27 @@ name_refusals_real x e of_peer = (refl, tt)
 bind_refusals_real : (x : Object) (space : Space) (found : Option Name) → AreReal (bind_refusals x space found)
 bind_refusals_real (pair p) space found = family_real p.family space _ (refl, tt)
 bind_refusals_real (idle i) space found = family_real i.family space _ (refl, (refl, tt))
+bind_refusals_real (listener l) space found = family_real l.family space _ (refl, tt)
 bind_refusals_real x space found = tt
 
-idle_connect_real : (i : Idle) (family : Family) (space : Space) (found : Option Name) → AreReal (connect_refusals_of family i space found)
-idle_connect_real i Tcp space found = (refl, (refl, tt))
-idle_connect_real i Unix space found = (refl, (refl, tt))
+listen_refusals_real : (x : Object) (found : Option Name) → AreReal (listen_refusals x found)
+listen_refusals_real (pair p) found = (refl, tt)
+listen_refusals_real (idle i) found = (refl, (refl, (refl, tt)))
+listen_refusals_real x found = tt
 
-connect_refusals_real : (x : Object) (space : Space) (found : Option Name) → AreReal (connect_refusals x space found)
-connect_refusals_real (pair p) space found = (refl, (refl, tt))
-connect_refusals_real (idle i) space found = idle_connect_real i i.family space found
-connect_refusals_real x space found = tt
+idle_connect_real : (i : Idle) (family : Family) (space : Space) (found : Option Name) (heard : Bool) → AreReal (connect_refusals_of family i space found heard)
+idle_connect_real i Tcp space found heard = (refl, (refl, (refl, tt)))
+idle_connect_real i Unix space found heard = (refl, (refl, (refl, tt)))
+
+listener_connect_real : (family : Family) (space : Space) (heard : Bool) → AreReal (listener_connect_refusals family space heard)
+listener_connect_real Tcp space heard = (refl, tt)
+listener_connect_real Unix space heard = (refl, (refl, (refl, tt)))
+
+connect_refusals_real : (x : Object) (space : Space) (found : Option Name) (heard : Bool) → AreReal (connect_refusals x space found heard)
+connect_refusals_real (pair p) space found heard = (refl, (refl, (refl, tt)))
+connect_refusals_real (idle i) space found heard = idle_connect_real i i.family space found heard
+connect_refusals_real (listener l) space found heard = listener_connect_real l.family space heard
+connect_refusals_real x space found heard = tt
 
 refusals_real : (x : Object) (e : End) (now : ℕ) (asked : ObjectCall) → AreReal (object_refusals x e now asked)
 refusals_real x e now (reads n) = read_refusals_real x e n now
@@ -92,7 +106,8 @@ refusals_real x e now (shuts_down how) = (refl, shutdown_refusals_real x e)
 refusals_real x e now takes_error = (refl, tt)
 refusals_real x e now (asks_name of_peer) = (refl, name_refusals_real x e of_peer)
 refusals_real x e now (binds space found) = (refl, bind_refusals_real x space found)
-refusals_real x e now (connects space found) = (refl, connect_refusals_real x space found)
+refusals_real x e now (listens backlog found) = (refl, listen_refusals_real x found)
+refusals_real x e now (connects space found heard) = (refl, connect_refusals_real x space found heard)
 refusals_real x e now (sets_time absolute value interval) = (refl, (refl, tt))
 refusals_real x e now asks_time = (refl, tt)
 
@@ -133,6 +148,10 @@ bind_real : (x : Object) (found : Option Name) → is_no_memory (bind x found).0
 bind_real (idle i) found = refl
 bind_real x found = refl
 
+listen_real : (x : Object) (backlog : ℤ) (found : Option Name) → is_no_memory (listen x backlog found).0 ≡ false
+listen_real (idle i) backlog found = refl
+listen_real x backlog found = refl
+
 connect_real : (x : Object) (found : Option Name) → is_no_memory (connect x found).0 ≡ false
 connect_real (idle i) found = by_connect i IsReal found refl refl
 connect_real x found = refl
@@ -153,7 +172,8 @@ effect_real x e now (shuts_down how) = shutdown_real x e how
 effect_real x e now takes_error = error_real x e
 effect_real x e now (asks_name of_peer) = name_real x e of_peer
 effect_real x e now (binds space found) = bind_real x found
-effect_real x e now (connects space found) = connect_real x found
+effect_real x e now (listens backlog found) = listen_real x backlog found
+effect_real x e now (connects space found heard) = connect_real x found
 effect_real x e now (sets_time absolute value interval) = settime_real x absolute value interval now
 effect_real x e now asks_time = gettime_real x now
 

@@ -1,22 +1,35 @@
 -- What a call asks of an object, as contracts see it.
-use Rattle.std.specs.Prelude.{Bool, None, Option, Some, is_some}
+use Rattle.std.specs.Prelude.{Bool, None, Option, Some, false, if◌then◌else◌, is_some, true}
 use Rattle.ep_base.specs.declared.call.Call.{Call}
+use Rattle.ep_base.specs.declared.call.Call.TheVariants.{Bind, Connect, Listen}
 use Rattle.ep_base.specs.declared.ids.Fd.{Fd}
 use Rattle.ep_base.specs.declared.socket.Name.{Name}
-use Rattle.ep_machine.specs.Objects.{ObjectCall, asks_name, asks_time, binds, connects, object_call, peeks, shuts_down, takes_error}
+use Rattle.ep_machine.specs.Objects.{ObjectCall, asks_name, asks_time, binds, connects, listens, object_call, peeks, shuts_down, takes_error}
+
+-- its socket may get a name by it
+abbrev pub is_naming : Call → Bool
+is_naming (Bind fd name) = true
+is_naming (Listen fd backlog) = true
+is_naming (Connect fd name) = true
+is_naming call = false
+
+-- What such a call asks, and what any other call on an object does: of that it plays no part which names are taken.
+abbrev pub naming_call : Option Name → Bool → Call → Option (Fd × ObjectCall)
+naming_call found heard call = if is_naming call then object_call found heard call else None
+
+abbrev pub plain_call : Call → Option (Fd × ObjectCall)
+plain_call call = if is_naming call then None else object_call None false call
 
 -- what a call on an object asks of it; any other call stands for a question that nobody puts
 abbrev pub asked_in : Option (Fd × ObjectCall) → ObjectCall
 asked_in None = asks_time
 asked_in (Some on) = on.1
 
-abbrev pub asked_by : Option Name → Call → ObjectCall
-asked_by found call = asked_in (object_call found call)
-
 -- the name that was found free for it
 abbrev pub found_in : ObjectCall → Option Name
 found_in (binds space found) = found
-found_in (connects space found) = found
+found_in (listens backlog found) = found
+found_in (connects space found heard) = found
 found_in asked = None
 
 -- it gives the socket a name, unless it is refused or the socket has one
@@ -29,6 +42,11 @@ IsOfSocket (peeks n) = Unit {0}
 IsOfSocket (shuts_down how) = Unit {0}
 IsOfSocket takes_error = Unit {0}
 IsOfSocket (asks_name of_peer) = Unit {0}
-IsOfSocket (binds space found) = Unit {0}
-IsOfSocket (connects space found) = Unit {0}
 IsOfSocket asked = ⊥
+
+-- a bind, a listen or a connect
+abbrev pub IsNaming : ObjectCall → Type 0
+IsNaming (binds space found) = Unit {0}
+IsNaming (listens backlog found) = Unit {0}
+IsNaming (connects space found heard) = Unit {0}
+IsNaming asked = ⊥

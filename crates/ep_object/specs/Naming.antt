@@ -3,7 +3,7 @@ use Rattle.std.specs.Prelude.{◌≡◌, None, Option, Some, ℕ}
 use Rattle.ep_base.specs.declared.object.End.{End}
 use Rattle.ep_base.specs.declared.socket.Name.{Name}
 use Rattle.ep_machine.specs.Effect.{attempt}
-use Rattle.ep_machine.specs.Objects.{Object, ObjectCall, binds, connects, idle, name_in, object_effect, object_refusals}
+use Rattle.ep_machine.specs.Objects.{Object, ObjectCall, binds, connects, idle, listens, name_in, object_effect, object_refusals}
 use Rattle.ep_machine.specs.Unconnected.{Idle}
 
 -- what a call leaves of an object
@@ -22,5 +22,6 @@ GainsName x y found = Gains (idle x) (idle y) found
 -- a call by which no socket gets a name
 abbrev pub NamesNobody : ObjectCall → Type 0
 NamesNobody (binds space found) = ⊥
-NamesNobody (connects space found) = ⊥
+NamesNobody (listens backlog found) = ⊥
+NamesNobody (connects space found heard) = ⊥
 NamesNobody asked = Unit {0}

@@ -2,6 +2,7 @@
 #![tactic(auto)]
 
 mod law;
+mod listener;
 mod object;
 mod object_call;
 mod refusal;
@@ -9,4 +10,4 @@ mod unconnected;
 
 pub use crate::law::{arrivals_are_raised, objects_keep_laws};
 pub use crate::object::Object;
-pub use crate::object_call::ObjectCall;
+pub use crate::object_call::{NamingCall, ObjectCall};

@@ -2,7 +2,12 @@
 ghost use Rattle.std.specs.Prelude.{◌≡◌, ◌≤◌, ◌∷◌, [], ℕ, Bool, min, not, IfOk, IfSome, Some, IsOk, OnErr};
 ghost use Rattle.ep_machine.specs.Bits.{raises};
 ghost use Rattle.ep_machine.specs.Effect.{attempt};
-ghost use Rattle.ep_machine.specs.Objects.{advance, bind, bind_refusals, close_end, connect, connect_refusals, counter, gettime, idle, instance, is_instance, is_plain, is_timer, name_in, name_of, name_refusals, object_effect, object_present, object_refusals, of_socket, pair, peek, peeks, pipe, plain, read, read_refusals, reads, settime, shutdown, shutdown_refusals, take_error, timer, write, write_refusals};
+ghost use Rattle.ep_machine.specs.Objects.{advance, bind, bind_refusals, close_end, connect, connect_refusals, counter};
+ghost use Rattle.ep_machine.specs.Objects.{gettime, idle, instance, is_instance, is_listener, is_plain, is_socket};
+ghost use Rattle.ep_machine.specs.Objects.{is_timer, listen, listen_refusals, name_in, name_of, name_refusals};
+ghost use Rattle.ep_machine.specs.Objects.{object_effect, object_present, object_refusals, of_socket, pair, peek};
+ghost use Rattle.ep_machine.specs.Objects.{peeks, pipe, plain, read, read_refusals, reads, settime, shutdown};
+ghost use Rattle.ep_machine.specs.Objects.{shutdown_refusals, take_error, timer, write, write_refusals};
 ghost use Rattle.ep_machine.specs.Pipe.{new_pipe};
 ghost use Rattle.ep_machine.specs.Sockets.{new_pair};
 ghost use Rattle.ep_machine.specs.Timer.{new_timer, timer_set_refusals};
@@ -12,9 +17,10 @@ ghost use Rattle.ep_object.specs.Memory.{asked_of, object_waiting};
 ghost use Rattle.ep_object.specs.Naming.{Gains, called};
 ghost use Rattle.ep_object.specs.Next.{IsNextMoment};
 
-use crate::object_call::ObjectCall;
+use crate::listener::Listener;
+use crate::object_call::{NamingCall, ObjectCall};
 use crate::refusal::{NOTHING, refused};
-use crate::unconnected::{Idle, misfit_or};
+use crate::unconnected::{Idle, misfit_or, unheard_or};
 use ep_base::{Answer, Buffer, Bytes, Call, Errno, Family, How, Mask, Moment, Name, Space, Span};
 use ep_counters::{EventFd, Timer};
 use ep_stream::{End, Pipe, Raised, SockPair};
@@ -28,8 +34,9 @@ enum Kind {
     Plain(Global),
     Pipe(Pipe),
     Pair(SockPair),
-    /// A socket without a connection.
+    /// A socket without a connection that doesn't listen.
     Idle(Idle),
+    Listener(Listener),
     Counter(EventFd),
     Timer(Timer),
     /// An epoll instance, whose registrations are kept elsewhere.
@@ -134,19 +141,34 @@ impl Object {
     }
 
     /// The name that it has and keeps from others as long as it lives: of a socket without a connection, once it is
-    /// bound or was given one.
+    /// bound or was given one. A listener has one.
     pub fn name(&self) -> Option<Name>
         ensures { result ≡ name_in self.now }
     {
         match &self.kind {
             Kind::Idle(idle) => idle.name(),
+            Kind::Listener(listener) => Some(listener.name()),
             _ => None,
         }
     }
 
+    /// Whether it is a socket that listens.
+    pub fn is_listener(&self) -> bool
+        ensures { result ≡ is_listener self.now }
+    {
+        matches!(self.kind, Kind::Listener(_))
+    }
+
+    /// Whether it is a socket.
+    pub fn is_socket(&self) -> bool
+        ensures { result ≡ is_socket self.now }
+    {
+        matches!(self.kind, Kind::Pair(_) | Kind::Idle(_) | Kind::Listener(_))
+    }
+
     /// The name that it has after this call and had not before.
-    #[tactic(auto, using(crate::proofs::NamingLemmas::other_object, crate::proofs::NamingLemmas::other_call))]
-    pub fn gains(&self, call: &ObjectCall<'_>) -> Option<Name>
+    #[tactic(auto, using(crate::proofs::NamingLemmas::other_object))]
+    pub fn gains(&self, call: &NamingCall<'_>) -> Option<Name>
         ensures gains { (end : End) (now : ℕ)
             → Gains self.now (called self.now end now call.now) result }
         ensures found { IfSome result (λ name. found_in call.now ≡ Some name) }
@@ -156,18 +178,19 @@ impl Object {
         };
         match *call.call {
             Call::Bind { name, .. } => idle.gains_bound(name.space, call.found),
-            Call::Connect { name, .. } => idle.gains_connected(name.space, call.found),
-            _ => None,
+            Call::Listen { .. } => idle.gains_listening(call.found),
+            Call::Connect { name, .. } => idle.gains_connected(name.space, call.found, call.heard),
+            _ => unreachable!(),
         }
     }
 
     /// The bits that hold at this end at the moment `now`, as poll(2) would report them. None hold of
-    /// a plain file, nor of an instance, which is judged by its registrations.
+    /// a plain file or a listener, nor of an instance, which is judged by its registrations.
     pub fn present(&self, end: End, now: Moment) -> Mask
         ensures { result.0 ≡ object_present self.now end now }
     {
         match &self.kind {
-            Kind::Plain(_) | Kind::Instance => Mask(0),
+            Kind::Plain(_) | Kind::Listener(_) | Kind::Instance => Mask(0),
             Kind::Pipe(pipe) => pipe.present(end),
             Kind::Pair(pair) => pair.present(end),
             Kind::Idle(idle) => idle.present(),
@@ -185,8 +208,12 @@ impl Object {
             Kind::Pipe(_) if call.is_peek() => 0,
             Kind::Pipe(pipe) => pipe.waiting(end),
             Kind::Pair(pair) => pair.waiting(end),
-            Kind::Plain(_) | Kind::Idle(_) | Kind::Counter(_) | Kind::Timer(_) | Kind::Instance =>
-                0,
+            Kind::Plain(_)
+            | Kind::Idle(_)
+            | Kind::Listener(_)
+            | Kind::Counter(_)
+            | Kind::Timer(_)
+            | Kind::Instance => 0,
         }
     }
 
@@ -223,8 +250,12 @@ impl Object {
         match &mut self.kind {
             Kind::Pipe(pipe) => pipe.close_end(end),
             Kind::Pair(pair) => pair.close_end(end),
-            Kind::Plain(_) | Kind::Idle(_) | Kind::Counter(_) | Kind::Timer(_) | Kind::Instance =>
-                NOTHING,
+            Kind::Plain(_)
+            | Kind::Idle(_)
+            | Kind::Listener(_)
+            | Kind::Counter(_)
+            | Kind::Timer(_)
+            | Kind::Instance => NOTHING,
         }
     }
 
@@ -233,10 +264,9 @@ impl Object {
     ///
     /// - read(2) and write(2): EINVAL of an instance, and for a write of a timer; else as the kind's
     ///   own type says. A plain file gives no bytes and takes all.
-    /// - recv(2) with MSG_PEEK, shutdown(2), SO_ERROR, names, bind(2) and connect(2): ENOTSOCK of anything but a
-    ///   socket. A socket pair answers as its own type says; a name is `None`, a bind EINVAL, and a connect
-    ///   ECONNREFUSED, or EINVAL by a name that is none of a Unix socket. A socket without a connection has ENOTCONN
-    ///   for a shutdown and a peer's name.
+    /// - recv(2) with MSG_PEEK, shutdown(2), SO_ERROR and names: ENOTSOCK of anything but a socket. A socket pair
+    ///   answers as its own type says, and has no name. A socket without a connection has ENOTCONN for a shutdown and
+    ///   a peer's name.
     /// - timerfd_settime(2) and timerfd_gettime(2) answer the setting that the timer had: EINVAL of
     ///   anything but a timer, and for a `value` or `interval` above `LAST_MOMENT`.
     ///
@@ -259,9 +289,7 @@ impl Object {
             Call::Peek { .. }
             | Call::Shutdown { .. }
             | Call::TakeError { .. }
-            | Call::SocketName { .. }
-            | Call::Bind { .. }
-            | Call::Connect { .. } => self.apply_to_socket(end, call),
+            | Call::SocketName { .. } => self.apply_to_socket(end, call),
             Call::SetTime {
                 absolute,
                 value,
@@ -285,6 +313,7 @@ impl Object {
             Kind::Pipe(pipe) => pipe.read(end, n),
             Kind::Pair(pair) => pair.read(end, n),
             Kind::Idle(idle) => Ok((idle.read(n), NOTHING)),
+            Kind::Listener(listener) => Ok((listener.read(n), NOTHING)),
             Kind::Counter(counter) => Ok(counter.read(n)),
             Kind::Timer(timer) => Ok(timer.read(now, n)),
             Kind::Instance => Ok(refused(Errno::Einval)),
@@ -301,6 +330,7 @@ impl Object {
             Kind::Pipe(pipe) => pipe.write(end, bytes),
             Kind::Pair(pair) => pair.write(end, bytes),
             Kind::Idle(idle) => (idle.write(bytes), NOTHING),
+            Kind::Listener(listener) => (listener.write(bytes), NOTHING),
             Kind::Counter(counter) => counter.write(bytes),
             Kind::Timer(_) | Kind::Instance => refused(Errno::Einval),
         }
@@ -324,8 +354,28 @@ impl Object {
             Call::Shutdown { how, .. } => Ok(self.shutdown(end, how)),
             Call::TakeError { .. } => Ok(self.take_error(end)),
             Call::SocketName { peer, .. } => Ok(self.named(peer)),
-            Call::Bind { name, .. } => Ok(self.bind(name.space, call.found)),
-            Call::Connect { name, .. } => Ok(self.connect(name.space, call.found)),
+            _ => unreachable!(),
+        }
+    }
+
+    /// What a bind, a listen or a connect is answered, and what it raises: ENOTSOCK of anything but a socket. A refusal
+    /// leaves the object and raises nothing.
+    ///
+    /// - bind(2): EAFNOSUPPORT (TCP) or EINVAL (Unix) by a name that is none of the family, EINVAL of a connection, of
+    ///   a listener and of what has a name or failed to connect, EADDRINUSE where no name was found.
+    /// - listen(2): EINVAL of a connection, of what failed to connect, and of a Unix socket without a name, EADDRINUSE
+    ///   where no name was found.
+    /// - connect(2): of a socket without a connection that doesn't listen as its own type says. Any other Unix socket
+    ///   has EINVAL by a name of TCP, ECONNREFUSED where nobody listens, and then EISCONN, a listener EINVAL. A TCP
+    ///   listener has EISCONN.
+    pub fn apply_naming(&mut self, call: &NamingCall<'_>) -> (Answer, Raised)
+        ensures { (end : End) (now : ℕ) → (result.0, self.new, result.1) ≡
+            attempt (object_refusals self.old end now call.now) self.old (object_effect self.old end now call.now) }
+    {
+        match *call.call {
+            Call::Bind { name, .. } => self.bind(name.space, call.found),
+            Call::Listen { backlog, .. } => self.listen(backlog, call.found),
+            Call::Connect { name, .. } => self.connect(name.space, call.found, call.heard),
             _ => unreachable!(),
         }
     }
@@ -340,6 +390,7 @@ impl Object {
         match &mut self.kind {
             Kind::Pair(pair) => pair.peek(end, n),
             Kind::Idle(idle) => Ok((idle.read(n), NOTHING)),
+            Kind::Listener(listener) => Ok((listener.read(n), NOTHING)),
             _ => Ok(refused(Errno::Enotsock)),
         }
     }
@@ -351,7 +402,7 @@ impl Object {
     {
         match &mut self.kind {
             Kind::Pair(pair) => pair.shutdown(end, how),
-            Kind::Idle(_) => refused(Errno::Enotconn),
+            Kind::Idle(_) | Kind::Listener(_) => refused(Errno::Enotconn),
             _ => refused(Errno::Enotsock),
         }
     }
@@ -364,6 +415,7 @@ impl Object {
         match &mut self.kind {
             Kind::Pair(pair) => (pair.take_error(end), NOTHING),
             Kind::Idle(idle) => (idle.take_error(), NOTHING),
+            Kind::Listener(_) => (Answer::Num(0), NOTHING),
             _ => refused(Errno::Enotsock),
         }
     }
@@ -375,8 +427,9 @@ impl Object {
     {
         match &self.kind {
             Kind::Pair(pair) => (Answer::Named(pair.name()), NOTHING),
-            Kind::Idle(_) if of_peer => refused(Errno::Enotconn),
+            Kind::Idle(_) | Kind::Listener(_) if of_peer => refused(Errno::Enotconn),
             Kind::Idle(idle) => (Answer::Named(idle.name()), NOTHING),
+            Kind::Listener(listener) => (Answer::Named(Some(listener.name())), NOTHING),
             _ => refused(Errno::Enotsock),
         }
     }
@@ -389,18 +442,43 @@ impl Object {
         match &mut self.kind {
             Kind::Pair(pair) => refused(misfit_or(pair.family(), space, Errno::Einval)),
             Kind::Idle(idle) => (idle.bind(space, found), NOTHING),
+            Kind::Listener(listener) => refused(listener.refuses_bind(space)),
             _ => refused(Errno::Enotsock),
         }
     }
 
-    /// connect(2) by a name of this space, where this one was found free.
-    fn connect(&mut self, space: Space, found: Option<Name>) -> (Answer, Raised)
+    /// listen(2), where this name was found free.
+    fn listen(&mut self, backlog: i32, found: Option<Name>) -> (Answer, Raised)
         ensures { (result.0, self.new, result.1) ≡
-            attempt (of_socket self.old (connect_refusals self.old space found)) self.old (connect self.old found) }
+            attempt (of_socket self.old (listen_refusals self.old found)) self.old (listen self.old backlog found) }
     {
         match &mut self.kind {
-            Kind::Pair(_) => refused(misfit_or(Family::Unix, space, Errno::Econnrefused)),
-            Kind::Idle(idle) => idle.connect(space, found),
+            Kind::Pair(_) => refused(Errno::Einval),
+            Kind::Idle(idle) => match idle.to_listener(backlog, found) {
+                Ok(listener) => {
+                    self.kind = Kind::Listener(listener);
+                    (Answer::Done, NOTHING)
+                }
+                Err(errno) => refused(errno),
+            },
+            Kind::Listener(listener) => {
+                listener.listen(backlog);
+                (Answer::Done, NOTHING)
+            }
+            _ => refused(Errno::Enotsock),
+        }
+    }
+
+    /// connect(2) by a name of this space, where this one was found free, and somebody listens at the name that is
+    /// asked for if `heard`.
+    fn connect(&mut self, space: Space, found: Option<Name>, heard: bool) -> (Answer, Raised)
+        ensures { (result.0, self.new, result.1) ≡
+            attempt (of_socket self.old (connect_refusals self.old space found heard)) self.old (connect self.old found) }
+    {
+        match &mut self.kind {
+            Kind::Pair(_) => refused(unheard_or(space, heard, Errno::Eisconn)),
+            Kind::Idle(idle) => idle.connect(space, found, heard),
+            Kind::Listener(listener) => refused(listener.refuses_connect(space, heard)),
             _ => refused(Errno::Enotsock),
         }
     }

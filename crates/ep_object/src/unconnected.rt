@@ -1,14 +1,17 @@
-//! Sockets without a connection.
-ghost use Rattle.std.specs.Prelude.{◌≡◌, ◌++◌, ◌∷◌, [], IfSome, None, Some, false, true, unwrap_or};
+//! Sockets without a connection that don't listen.
+ghost use Rattle.std.specs.Prelude.{◌≡◌, ◌++◌, ◌∷◌, [], IfErr, IfOk, IfSome, None, Some, ℤ, false, not, true, unwrap_or};
 ghost use Rattle.ep_base.specs.declared.answer.Answer.TheVariants.{Failed};
-ghost use Rattle.ep_base.specs.declared.errno.Errno.TheVariants.{Econnaborted};
-ghost use Rattle.ep_base.specs.declared.socket.Family.TheVariants.{Tcp};
+ghost use Rattle.ep_base.specs.declared.errno.Errno.TheVariants.{Econnaborted, Econnrefused};
+ghost use Rattle.ep_base.specs.declared.socket.Family.TheVariants.{Tcp, Unix};
 ghost use Rattle.ep_machine.specs.Bits.{nothing};
 ghost use Rattle.ep_machine.specs.Effect.{attempt, first};
+ghost use Rattle.ep_machine.specs.Listening.{idle_listen_refusals};
+ghost use Rattle.ep_machine.specs.Objects.{idle, listen, listener, listening};
 ghost use Rattle.ep_machine.specs.Sockets.{is_tcp};
-ghost use Rattle.ep_machine.specs.Unconnected.{connect_refusals_of, family_refusals, idle_bind, idle_bind_refusals, idle_connect, idle_connect_refusals, idle_present, idle_read, idle_read_refusals, idle_take_error, idle_write, idle_write_refusals, new_idle, unread_error, unwritten_error};
-ghost use Rattle.ep_object.specs.Naming.{GainsName};
+ghost use Rattle.ep_machine.specs.Unconnected.{connect_refusals_of, family_refusals, idle_bind, idle_bind_refusals, idle_connect, idle_connect_refusals, idle_present, idle_read, idle_read_refusals, idle_take_error, idle_write, idle_write_refusals, name_or, new_idle, unread_error, unwritten_error};
+ghost use Rattle.ep_object.specs.Naming.{Gains, GainsName};
 
+use crate::listener::Listener;
 use crate::refusal::{NOTHING, refused};
 use ep_base::{Answer, Buffer, Bytes, Errno, Family, Mask, Name, Space};
 use ep_stream::Raised;
@@ -27,8 +30,8 @@ const ALL: Raised = Raised {
     second: Mask(0),
 };
 
-/// A socket of a family without a connection: its name, whether its connect failed and no further one has told so, and
-/// the error that waits to be taken. With it goes the allocator of the answers that it gives.
+/// A socket of a family without a connection that doesn't listen: its name, whether its connect failed and no further
+/// one has told so, and the error that waits to be taken. With it goes the allocator of the answers that it gives.
 #[derive(Drop)]
 pub(crate) struct Idle {
     alloc: Global,
@@ -165,13 +168,19 @@ impl Idle {
         found
     }
 
-    /// The name that a connect of it would give: of a fresh TCP socket without a name the one that was found free.
-    pub(crate) fn gains_connected(&self, space: Space, found: Option<Name>) -> Option<Name>
-        ensures gains { GainsName self.now (attempt (idle_connect_refusals self.now space found) self.now
+    /// The name that a connect of it would give: of a fresh TCP socket without a name the one that was found free,
+    /// unless the connect is refused.
+    pub(crate) fn gains_connected(
+        &self,
+        space: Space,
+        found: Option<Name>,
+        heard: bool,
+    ) -> Option<Name>
+        ensures gains { GainsName self.now (attempt (idle_connect_refusals self.now space found heard) self.now
             (idle_connect self.now found)).1 result }
         ensures found { IfSome result (λ name. found ≡ Some name) }
     {
-        if !is_tcp(self.family) || misfit(self.family, space).is_some() {
+        if heard || !is_tcp(self.family) || misfit(self.family, space).is_some() {
             return None;
         }
         if self.has_failed || self.name.is_some() {
@@ -180,19 +189,56 @@ impl Idle {
         found
     }
 
-    /// connect(2) by a name of this space, where nobody listens, and where this name was found free. A Unix socket is
-    /// refused. A TCP socket takes the name if it has none, and has failed when the call returns, which raises all five
-    /// bits; one that failed is told its error, ECONNABORTED if that was taken, and is fresh again.
-    pub(crate) fn connect(&mut self, space: Space, found: Option<Name>) -> (Answer, Raised)
+    /// The name that a listen of it would give: of a fresh TCP socket without a name the one that was found free.
+    pub(crate) fn gains_listening(&self, found: Option<Name>) -> Option<Name>
+        ensures gains { (backlog : ℤ) → Gains (idle self.now) (attempt (idle_listen_refusals self.now found)
+            (idle self.now) (listen (idle self.now) backlog found)).1 result }
+        ensures found { IfSome result (λ name. found ≡ Some name) }
+    {
+        if !is_tcp(self.family) || self.has_failed || self.name.is_some() {
+            return None;
+        }
+        found
+    }
+
+    /// listen(2), where this name was found free: what it becomes, or with what that is refused. Of Unix it needs a
+    /// name of its own, and of TCP it gets one.
+    pub(crate) fn to_listener(&self, backlog: i32, found: Option<Name>) -> Result<Listener, Errno>
+        ensures ok { IfOk result (λ made. (first (idle_listen_refusals self.now found) ≡ None)
+            × (listening self.now backlog (name_or self.now.name found) ≡ listener made)) }
+        ensures err { IfErr result (λ errno. first (idle_listen_refusals self.now found) ≡ Some errno) }
+    {
+        if self.has_failed {
+            return Err(Errno::Einval);
+        }
+        if !is_tcp(self.family) && self.name.is_none() {
+            return Err(Errno::Einval);
+        }
+        match self.name.or(found) {
+            Some(name) => Ok(Listener::new(self.alloc, self.family, name, backlog)),
+            None => Err(Errno::Eaddrinuse),
+        }
+    }
+
+    /// connect(2) by a name of this space, where this name was found free, and somebody listens at the name that is
+    /// asked for if `heard`: then it is refused. If nobody listens a Unix socket is refused. A TCP socket takes the
+    /// name if it has none, and has failed when the call returns, which raises all five bits; one that failed is told
+    /// its error, ECONNABORTED if that was taken, and is fresh again.
+    pub(crate) fn connect(
+        &mut self,
+        space: Space,
+        found: Option<Name>,
+        heard: bool,
+    ) -> (Answer, Raised)
         ensures { (result.0, self.new, result.1) ≡
-            attempt (idle_connect_refusals self.old space found) self.old (idle_connect self.old found) }
+            attempt (idle_connect_refusals self.old space found heard) self.old (idle_connect self.old found) }
     {
         if self.has_failed && is_tcp(self.family) {
             return (self.tell_failure(), NOTHING);
         }
         match self.family {
-            Family::Unix => refused(misfit_or(Family::Unix, space, Errno::Econnrefused)),
-            Family::Tcp => self.fail_to_connect(space, found),
+            Family::Unix => refused(unheard_or(space, heard, Errno::Einval)),
+            Family::Tcp => self.fail_to_connect(space, found, heard),
         }
     }
 
@@ -207,11 +253,16 @@ impl Idle {
     }
 
     /// A connect of a TCP socket that is fresh: EAFNOSUPPORT by a name that is none of TCP, EADDRNOTAVAIL where it has
-    /// no name and none was found.
-    fn fail_to_connect(&mut self, space: Space, found: Option<Name>) -> (Answer, Raised)
+    /// no name and none was found, EINVAL where somebody listens.
+    fn fail_to_connect(
+        &mut self,
+        space: Space,
+        found: Option<Name>,
+        heard: bool,
+    ) -> (Answer, Raised)
         requires fresh { self.old.has_failed ≡ false }
         ensures { (result.0, self.new, result.1) ≡
-            attempt (connect_refusals_of Tcp self.old space found) self.old (idle_connect self.old found) }
+            attempt (connect_refusals_of Tcp self.old space found heard) self.old (idle_connect self.old found) }
     {
         if let Some(errno) = misfit(Family::Tcp, space) {
             return refused(errno);
@@ -219,6 +270,9 @@ impl Idle {
         let name = self.name.or(found);
         if name.is_none() {
             return refused(Errno::Eaddrnotavail);
+        }
+        if heard {
+            return refused(Errno::Einval);
         }
         self.name = name;
         self.has_failed = true;
@@ -238,7 +292,7 @@ fn is_tcp(family: Family) -> bool
 }
 
 /// What a family answers a read where no connection ever was.
-fn unread(family: Family) -> Errno
+pub(crate) fn unread(family: Family) -> Errno
     ensures { result ≡ unread_error family }
 {
     match family {
@@ -248,7 +302,7 @@ fn unread(family: Family) -> Errno
 }
 
 /// What a family answers a write where nothing goes.
-fn unwritten(family: Family) -> Errno
+pub(crate) fn unwritten(family: Family) -> Errno
     ensures { result ≡ unwritten_error family }
 {
     match family {
@@ -274,4 +328,15 @@ pub(crate) fn misfit_or(family: Family, space: Space, otherwise: Errno) -> Errno
     ensures { first (family_refusals family space ++ (true, otherwise) ∷ []) ≡ Some result }
 {
     misfit(family, space).unwrap_or(otherwise)
+}
+
+/// How a connect of a Unix socket is refused: by a name of TCP, where nobody listens, and else so.
+pub(crate) fn unheard_or(space: Space, heard: bool, otherwise: Errno) -> Errno
+    ensures { first (family_refusals Unix space ++ (not heard, Econnrefused) ∷ (true, otherwise) ∷ []) ≡ Some result }
+{
+    if heard {
+        misfit_or(Family::Unix, space, otherwise)
+    } else {
+        misfit_or(Family::Unix, space, Errno::Econnrefused)
+    }
 }

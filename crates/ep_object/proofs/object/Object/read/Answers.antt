@@ -6,7 +6,7 @@ use Rattle.ep_machine.specs.Sockets.{pair_read, pair_read_refusals}
 use Rattle.ep_machine.specs.Unconnected.{idle_read, idle_read_refusals}
 use Rattle.ep_object.proofs.WrapLemmas.{ok_wrapped, wrapped}
 use Rattle.ep_object.proofs.object.Object.read.Goals as goal
-use Rattle.ep_object.proofs.object.Object.read.Goals.{in-Plain, in-Pipe, in-Pair, in-Idle, in-Counter, in-Timer, in-Instance}
+use Rattle.ep_object.proofs.object.Object.read.Goals.{in-Plain, in-Pipe, in-Pair, in-Idle, in-Listener, in-Counter, in-Timer, in-Instance}
 use Rattle.ep_object.specs.Content.{content_of}
 
 pub returns-clause-ok : goal.returns-clause-ok
@@ -30,6 +30,7 @@ returns-clause-ok c = elim c.match-self.branch [
       let made = w.read-in-Idle in
       rw (w.result-is, w.self-inside-is, ← view)
       (wrapped idle i made.new.self (idle_read i c.args.n) (idle_read_refusals i c.args.n) made.result nothing made.ensures)
+  | in-Listener w ↦ search rules
   | in-Counter w ↦ search rules
   | in-Timer w ↦ search rules
   | in-Instance w ↦ search rules

@@ -3,7 +3,7 @@ use Rattle.ep_machine.specs.Objects.{pair}
 use Rattle.ep_machine.specs.Sockets.{pair_write, pair_write_refusals}
 use Rattle.ep_object.proofs.WrapLemmas.{wrapped}
 use Rattle.ep_object.proofs.object.Object.write.Goals as goal
-use Rattle.ep_object.proofs.object.Object.write.Goals.{in-Plain, in-Pipe, in-Pair, in-Idle, in-Counter, in-Timer}
+use Rattle.ep_object.proofs.object.Object.write.Goals.{in-Plain, in-Pipe, in-Pair, in-Idle, in-Listener, in-Counter, in-Timer}
 use Rattle.ep_object.specs.Content.{content_of}
 
 pub returns : goal.returns
@@ -17,6 +17,7 @@ returns c = elim c.match-self.branch [
       rw (w.result-is, w.self-inside-is, ← view)
       (wrapped pair p made.new.self (pair_write p c.args.end c.args.bytes.now) (pair_write_refusals p c.args.end c.args.bytes.now) made.result.0 made.result.1 made.ensures)
   | in-Idle w ↦ search rules
+  | in-Listener w ↦ search rules
   | in-Counter w ↦ search rules
   | in-Timer w ↦ search rules
 ]
