@@ -1,3 +1,4 @@
+pub mod LawLemmas
 pub mod LowestLemmas
+pub mod MarkLemmas
 pub mod NameLemmas
-pub mod SpaceLemmas

@@ -1,50 +1,11 @@
--- The lowest number that isn't taken, where one is freed, and as the machine gives it.
-use Rattle.std.proofs.Common.{Bool, None, Some, ap, arith, cond, false, if◌then◌else◌, inl, inr, nat_lt, refl, suc, sym, true, zero, ℕ, ◌+◌, ◌<◌, ◌==◌, ◌≡◌, ◌≢◌, ◌≤◌, ◌∙◌}
+-- The lowest number that isn't taken, as the machine gives it.
+use Rattle.std.proofs.Common.{Bool, None, Some, ap, arith, if◌then◌else◌, inl, inr, nat_lt, refl, suc, sym, zero, ℕ, ◌+◌, ◌<◌, ◌≡◌, ◌≢◌, ◌≤◌, ◌∙◌}
 use Rattle.std.proofs.lemmas.Bool.{both_ways, cases_Bool, cases_lt, le-ltb, lt-ltb}
 use Rattle.ep_base.specs.declared.socket.Name.{Name}
 use Rattle.ep_base.specs.declared.socket.Space.{Space}
-use Rattle.ep_facts.proofs.NatFacts.{same_nat, test_apart}
 use Rattle.ep_machine.specs.Names.{free_from, given}
 use Rattle.ep_names.specs.Names.{named}
 use Rattle.ep_names.specs.Numbers.{IsLowest}
-
--- the same of what answers alike
-pub lowest_same : (f g : ℕ → Bool) (from lowest : ℕ) → ((k : ℕ) → f k ≡ g k) → IsLowest f from lowest → IsLowest g from lowest
-lowest_same f g from lowest same l = record {
-  reached = l.reached;
-  within = l.within;
-  below = λ k a b. sym (same k) ∙ l.below k a b;
-  free = λ a. sym (same lowest) ∙ l.free a;
-}
-
--- a number is taken no more, and no other changes
-module _ (f g : ℕ → Bool) (from lowest number : ℕ) (change : (k : ℕ) → g k ≡ cond (number == k) false (f k)) where
-  kept : (k : ℕ) → k ≢ number → f k ≡ true → g k ≡ true
-  kept k ne t = change k ∙ (ap (λ (b : Bool). cond b false (f k)) (test_apart number k (λ e. ne (sym e))) ∙ t)
-
-  fewer : (k : ℕ) → f k ≡ false → g k ≡ false
-  fewer k t = change k ∙ (ap (λ (b : Bool). cond (number == k) false b) t ∙ none_left (number == k)) where
-    none_left : (b : Bool) → cond b false false ≡ false
-    none_left true = refl
-    none_left false = refl
-
-  pub lowest_lowered : from ≤ number → number < lowest → IsLowest f from lowest → IsLowest g from number
-  lowest_lowered a b l =
-      let top = l.within in
-      record {
-        reached = a;
-        within = omega arith;
-        below = λ k c d. kept k (λ e. omega (arith, e, d)) (l.below k c (omega (arith, b, d)));
-        free = λ t. change number ∙ ap (λ (b : Bool). cond b false (f number)) (same_nat number);
-      }
-
-  pub lowest_stays : (from ≤ number → lowest ≤ number) → IsLowest f from lowest → IsLowest g from lowest
-  lowest_stays away l = record {
-    reached = l.reached;
-    within = l.within;
-    below = λ k a b. kept k (λ e. let far = away (omega (arith, a, e)) in omega (arith, far, b, e)) (l.below k a b);
-    free = λ t. fewer lowest (l.free t);
-  }
 
 -- the machine's first free name is that of the lowest number
 pub free_from_is : (taken : Name → Bool) (space : Space) (left k lowest : ℕ) → k + left ≡ 61000 → IsLowest (λ n. taken (named space n)) k lowest

@@ -1,12 +1,12 @@
 -- Names are told apart by their numbers, and what is free by which are taken.
-use Rattle.std.proofs.Common.{Bool, List, None, Option, Some, ap, false, if◌then◌else◌, refl, suc, sym, true, zero, ℕ, ◌&&◌, ◌+◌, ◌==◌, ◌≡◌, ◌≢◌, ◌∙◌}
+use Rattle.std.proofs.Common.{Bool, None, Option, Some, ap, false, if◌then◌else◌, refl, suc, sym, true, zero, ℕ, ◌&&◌, ◌+◌, ◌==◌, ◌≡◌, ◌≢◌, ◌∙◌}
 use Rattle.std.proofs.lemmas.Bool.{and_parts}
 use Rattle.ep_base.specs.declared.socket.Name.{Name}
 use Rattle.ep_base.specs.declared.socket.Space.{Space}
 use Rattle.ep_base.specs.declared.socket.Space.TheVariants as spaces
 use Rattle.ep_facts.proofs.NatFacts.{from_test, same_nat, same_test, test_apart, test_turned}
 use Rattle.ep_machine.specs.Names.{free_from, free_name, given, same_name, space_number}
-use Rattle.ep_names.specs.Names.{holds, named}
+use Rattle.ep_names.specs.Names.{named}
 
 -- a space is told by its number
 pub same_space : (a b : Space) → space_number a ≡ space_number b → a ≡ b
@@ -33,10 +33,6 @@ same_itself a = ap (λ (t : Bool). t && (a.number == a.number)) (same_nat (space
 
 pub same_turned : (a b : Name) → same_name a b ≡ same_name b a
 same_turned a b = ap (λ (t : Bool). t && (a.number == b.number)) (test_turned (space_number a.space) (space_number b.space)) ∙ ap (λ (t : Bool). (space_number b.space == space_number a.space) && t) (test_turned a.number b.number)
-
--- a name is among others by what it says
-pub holds_same : (names : List Name) (a b : Name) → same_name a b ≡ true → holds names a ≡ holds names b
-holds_same names a b h = ap (holds names) (same_is a b h)
 
 -- what is given and what is free go by which names are taken
 module _ (f g : Name → Bool) (same : (n : Name) → f n ≡ g n) where

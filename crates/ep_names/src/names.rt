@@ -1,16 +1,17 @@
 //! Names that are taken, in three spaces.
-ghost use Rattle.std.specs.Prelude.{◌≡◌, ◌&&◌, ◌||◌, ℕ, OnErr, OnOk, [], not};
+ghost use Rattle.std.specs.Prelude.{◌≡◌, ℕ, None, OnErr, OnOk, Some, if◌then◌else◌};
 ghost use Rattle.ep_base.specs.declared.socket.Name.{Name as the_name};
-ghost use Rattle.ep_machine.specs.Lists.{is_among};
 ghost use Rattle.ep_machine.specs.Names.{free_name, given, same_name};
-ghost use Rattle.ep_names.specs.Names.{holds, named};
+ghost use Rattle.ep_names.specs.Names.{holds, no_names, numbers_in, owner_of};
 
-use crate::numbers::{GIVEN_END, Numbers};
+use crate::blocks::GIVEN_END;
+use crate::numbers::Numbers;
 use ep_base::{Name, Space};
 use std::alloc::{AllocError, Allocator, Global};
 use std::marker::Model;
 
-/// The names that are taken. Contracts see a list of them, whose order says nothing. Memory comes from `A`.
+/// The names that are taken, each with an owner, as the key of the object that has it. Contracts see the numbers and
+/// their owners, space by space, in lists whose order says nothing. Memory comes from `A`.
 #[derive(Drop)]
 pub struct Names<A: Allocator = Global> {
     v4: Numbers<A>,
@@ -19,13 +20,11 @@ pub struct Names<A: Allocator = Global> {
 }
 
 impl<A: Allocator> Model for Names<A> {
-    ghost use Rattle.std.specs.Prelude.{List};
-    ghost use Rattle.ep_base.specs.declared.socket.Name.{Name as the_name};
-    ghost use Rattle.ep_names.specs.Names.{names_of};
+    ghost use Rattle.ep_names.specs.Names.{Taken};
 
-    ghost Value = { List the_name };
+    ghost Value = { Taken };
 
-    ghost view = { λ n. names_of n.v4 n.v6 n.local };
+    ghost view = { λ n. record { v4 = n.v4; v6 = n.v6; local = n.local } };
 }
 
 impl<A: Allocator> Names<A> {
@@ -33,7 +32,7 @@ impl<A: Allocator> Names<A> {
     pub fn new(alloc: A) -> Self
     where
         A: Copy,
-        ensures { result ≡ [] }
+        ensures { result ≡ no_names }
     {
         Names {
             v4: Numbers::new(alloc),
@@ -44,7 +43,7 @@ impl<A: Allocator> Names<A> {
 
     /// The numbers of a space that are taken.
     fn numbers(&self, space: Space) -> &Numbers<A>
-        ensures { (k : ℕ) → is_among result.now k ≡ holds self.now (named space k) }
+        ensures { result.now ≡ numbers_in self.now space }
     {
         match space {
             Space::V4 => &self.v4,
@@ -53,15 +52,15 @@ impl<A: Allocator> Names<A> {
         }
     }
 
-    /// Whether a name is taken. It takes constant time.
-    pub fn contains(&self, name: Name) -> bool
-        ensures { result ≡ holds self.now name }
+    /// Who has a name, `None` if it isn't taken. It takes constant time.
+    pub fn owner(&self, name: Name) -> Option<usize>
+        ensures { result ≡ owner_of self.now name }
     {
-        self.numbers(name.space).contains(name.number)
+        self.numbers(name.space).owner(name.number)
     }
 
-    /// The name of the lowest number of a space that can be given, from 32,768 to 60,999, and isn't taken; `None`
-    /// exactly where each is. It takes constant time.
+    /// The name of the lowest number of a space that can be given, from 32,768 to 60,999, and isn't taken. `None` if
+    /// each of them is taken, and only then. It takes constant time.
     pub fn given(&self, space: Space) -> Option<Name>
         ensures { result ≡ given (holds self.now) space }
     {
@@ -73,7 +72,7 @@ impl<A: Allocator> Names<A> {
         }
     }
 
-    /// The name that is asked for, where it isn't taken. Number 0 asks for any, and gets what `given` gives. It takes
+    /// The name that is asked for, `None` if it is taken. Number 0 asks for any, and gets what `given` gives. It takes
     /// constant time.
     pub fn free(&self, name: Name) -> Option<Name>
         ensures { result ≡ free_name (holds self.now) name }
@@ -81,31 +80,33 @@ impl<A: Allocator> Names<A> {
         if name.number == 0 {
             return self.given(name.space);
         }
-        if self.contains(name) {
-            None
-        } else {
-            Some(name)
+        match self.owner(name) {
+            Some(_) => None,
+            None => Some(name),
         }
     }
 
-    /// Takes a name. `AllocError` where there is no memory, and then nothing has changed. It takes constant time, but
-    /// where a table grows, and where the name was the one that `given` gives goes past the taken numbers that follow
-    /// it.
-    pub fn insert(&mut self, name: Name) -> Result<(), AllocError>
+    /// Takes a name for an owner. If it is taken, it gets this owner in place of its own. `AllocError` if there is no
+    /// memory, and then nothing has changed. It takes constant time, unless a table grows or the name was what `given`
+    /// gives. Then it looks for the next free number, in blocks of 128. It passes over a block that it found full
+    /// before, unless a number of it was freed since. So that takes constant time over many calls.
+    pub fn insert(&mut self, name: Name, owner: usize) -> Result<(), AllocError>
         ensures taken { OnOk result
-            ((n : the_name) → holds self.new n ≡ (same_name name n || holds self.old n)) }
+            ((n : the_name) → owner_of self.new n
+            ≡ (if same_name name n then Some owner else owner_of self.old n)) }
         ensures kept { OnErr result (self.new ≡ self.old) }
     {
         match name.space {
-            Space::V4 => self.v4.insert(name.number),
-            Space::V6 => self.v6.insert(name.number),
-            Space::Local => self.local.insert(name.number),
+            Space::V4 => self.v4.insert(name.number, owner),
+            Space::V6 => self.v6.insert(name.number, owner),
+            Space::Local => self.local.insert(name.number, owner),
         }
     }
 
-    /// Frees a name; nothing changes where it isn't taken. It takes constant time and no memory.
+    /// Frees a name. Nothing changes if it isn't taken. It takes constant time and no memory.
     pub fn remove(&mut self, name: Name)
-        ensures { (n : the_name) → holds self.new n ≡ (not (same_name name n) && holds self.old n) }
+        ensures { (n : the_name) → owner_of self.new n
+            ≡ (if same_name name n then None else owner_of self.old n) }
     {
         match name.space {
             Space::V4 => self.v4.remove(name.number),

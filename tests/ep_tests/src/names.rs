@@ -1,4 +1,5 @@
-//! The names that are taken, beside a plain list of them, and a name refused its memory over heaps of rising size.
+//! The names that are taken and their owners, beside a plain list of both, and a name refused its memory over heaps of
+//! rising size.
 
 use ep_base::{Name, Space};
 use ep_names::Names;
@@ -34,11 +35,24 @@ const STEPS: [(bool, Space, u32); 18] = [
     (false, Space::Local, 60_999),
 ];
 
+/// A name that is taken, and its owner.
+type Owned = (Name, usize);
+
+/// Who has a name on a list.
+fn plain_owner(list: &[Owned], name: Name) -> Option<usize> {
+    for (other, owner) in list {
+        if *other == name {
+            return Some(*owner);
+        }
+    }
+    None
+}
+
 /// The lowest number that a list leaves a space to give.
-fn plain_given(list: &[Name], space: Space) -> Option<Name> {
+fn plain_given(list: &[Owned], space: Space) -> Option<Name> {
     for number in 32_768..61_000 {
         let name = Name { space, number };
-        if !list.contains(&name) {
+        if plain_owner(list, name).is_none() {
             return Some(name);
         }
     }
@@ -46,10 +60,10 @@ fn plain_given(list: &[Name], space: Space) -> Option<Name> {
 }
 
 /// What a list leaves to who asks for a name.
-fn plain_free(list: &[Name], name: Name) -> Option<Name> {
+fn plain_free(list: &[Owned], name: Name) -> Option<Name> {
     if name.number == 0 {
         plain_given(list, name.space)
-    } else if list.contains(&name) {
+    } else if plain_owner(list, name).is_some() {
         None
     } else {
         Some(name)
@@ -57,14 +71,14 @@ fn plain_free(list: &[Name], name: Name) -> Option<Name> {
 }
 
 /// Whether the names answer as the list does.
-fn is_like<A: Allocator>(names: &Names<A>, list: &[Name]) -> bool {
+fn is_like<A: Allocator>(names: &Names<A>, list: &[Owned]) -> bool {
     for space in SPACES {
         if names.given(space) != plain_given(list, space) {
             return false;
         }
         for number in NUMBERS {
             let name = Name { space, number };
-            if names.contains(name) != list.contains(&name) {
+            if names.owner(name) != plain_owner(list, name) {
                 return false;
             }
             if names.free(name) != plain_free(list, name) {
@@ -78,16 +92,16 @@ fn is_like<A: Allocator>(names: &Names<A>, list: &[Name]) -> bool {
 #[test]
 fn answers_as_a_plain_list_does(rt: HostRuntime) -> Result<(), Fail> {
     let mut names = Names::new(rt.alloc());
-    let mut list: Vec<Name> = Vec::new(rt.alloc());
+    let mut list: Vec<Owned> = Vec::new(rt.alloc());
     assert!(rt; is_like(&names, &list));
-    for (takes, space, number) in STEPS {
+    for (owner, (takes, space, number)) in STEPS.into_iter().enumerate() {
         let name = Name { space, number };
         if takes {
-            names.insert(name)?;
-            list.push(name)?;
+            names.insert(name, owner)?;
+            list.push((name, owner))?;
         } else {
             names.remove(name);
-            list.retain(|other| *other != name);
+            list.retain(|other| other.0 != name);
         }
         assert!(rt; is_like(&names, &list));
     }
@@ -102,14 +116,14 @@ fn given<A: Allocator>(names: &Names<A>, space: Space) -> u32 {
     }
 }
 
-/// Takes each number that a space gives: how many, or 0 if one is not the next.
+/// Takes each number that a space gives, for its place among them: how many, or 0 if one is not the next.
 fn take_all<A: Allocator>(names: &mut Names<A>, space: Space) -> Result<u32, AllocError> {
     let mut count = 0;
     while let Some(name) = names.given(space) {
         if name.number != 32_768 + count {
             return Ok(0);
         }
-        names.insert(name)?;
+        names.insert(name, count as usize)?;
         count += 1;
     }
     Ok(count)
@@ -123,22 +137,48 @@ fn gives_a_freed_number_again(rt: HostRuntime) -> Result<(), Fail> {
     let any = Name { space, number: 0 };
     assert!(rt; names.free(any).is_none());
     assert!(rt; given(&names, Space::V4) == 32_768 && given(&names, Space::Local) == 32_768);
-    for number in [40_000, 60_999, 32_768] {
+    // Among them the last number of the first block of 128, the first of the second, and the first of the last.
+    let freed = [
+        (32_768, 0),
+        (32_895, 127),
+        (32_896, 128),
+        (46_884, 14_116),
+        (60_928, 28_160),
+        (60_999, 28_231),
+    ];
+    for (number, owner) in freed {
         let name = Name { space, number };
+        assert!(rt; names.owner(name) == Some(owner));
         names.remove(name);
+        assert!(rt; names.owner(name).is_none());
         assert!(rt; names.given(space) == Some(name) && names.free(any) == Some(name));
-        names.insert(name)?;
+        names.insert(name, owner)?;
         assert!(rt; names.given(space).is_none());
     }
-    names.remove(Name {
-        space,
-        number: 50_000,
-    });
-    names.remove(Name {
-        space,
-        number: 40_000,
-    });
+    Ok(())
+}
+
+#[test]
+fn gives_the_lowest_of_two_freed_numbers(rt: HostRuntime) -> Result<(), Fail> {
+    let mut names = Names::new(rt.alloc());
+    let space = Space::V4;
+    assert!(rt; take_all(&mut names, space)? == 28_232);
+    for number in [50_000, 40_000] {
+        names.remove(Name { space, number });
+    }
     assert!(rt; given(&names, space) == 40_000);
+    names.insert(
+        Name {
+            space,
+            number: 40_000,
+        },
+        1,
+    )?;
+    assert!(rt; given(&names, space) == 50_000);
+    for number in [40_001, 50_001] {
+        names.remove(Name { space, number });
+    }
+    assert!(rt; given(&names, space) == 40_001);
     Ok(())
 }
 
@@ -147,14 +187,30 @@ fn goes_past_what_is_taken(rt: HostRuntime) -> Result<(), Fail> {
     let mut names = Names::new(rt.alloc());
     let space = Space::Local;
     for number in 32_769..33_000 {
-        names.insert(Name { space, number })?;
+        names.insert(Name { space, number }, 0)?;
     }
     assert!(rt; given(&names, space) == 32_768);
-    names.insert(Name {
+    let lowest = Name {
         space,
         number: 32_768,
-    })?;
+    };
+    names.insert(lowest, 0)?;
     assert!(rt; given(&names, space) == 33_000);
+    Ok(())
+}
+
+#[test]
+fn gives_a_name_to_another_owner(rt: HostRuntime) -> Result<(), Fail> {
+    let mut names = Names::new(rt.alloc());
+    let name = Name {
+        space: Space::Local,
+        number: 7,
+    };
+    names.insert(name, 1)?;
+    names.insert(name, 2)?;
+    assert!(rt; names.owner(name) == Some(2));
+    names.remove(name);
+    assert!(rt; names.owner(name).is_none());
     Ok(())
 }
 
@@ -166,8 +222,8 @@ fn first_refusal<A: Allocator>(names: &mut Names<A>) -> Option<bool> {
             space: Space::V4,
             number,
         };
-        if names.insert(name).is_err() {
-            return Some(!names.contains(name) && given(names, Space::V4) == number);
+        if names.insert(name, 0).is_err() {
+            return Some(names.owner(name).is_none() && given(names, Space::V4) == number);
         }
     }
     None
