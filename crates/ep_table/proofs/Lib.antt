@@ -17,6 +17,8 @@ pub mod CountsLemmas
 pub mod SoundLemmas
 pub mod StoreCountsLemmas
 pub mod TakingLemmas
+pub mod OwnersLemmas
+pub mod AcceptLemmas
 mod TimesLemmas
 pub mod NamesLemmas
 pub mod PutLemmas

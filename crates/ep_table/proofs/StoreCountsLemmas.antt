@@ -108,6 +108,7 @@ module _ {A : Type 0} (k : Inside A) (v : Things) (inv : IsStore k) (same : thin
       keyed = subst (λ (keys : List (Option ℕ)). AllKeyed keys dying.items) (sym (keys_counted ds n key.0 d is inv.descriptions a b)) keyed;
       fewer = fewer_counted ds n key.0 d is inv.descriptions a b k.named m inv.fewer le most;
       taken = inv.taken;
+      owners = inv.owners;
     }
 
     -- it stays off the queue

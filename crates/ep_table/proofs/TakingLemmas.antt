@@ -1,10 +1,10 @@
 -- Which names of sockets are taken, as objects come, change and go.
-use Rattle.std.proofs.Common.{◌≡◌, ◌≢◌, ◌<◌, ◌≤◌, ◌&&◌, ◌++◌, ◌∙◌, ◌∷◌, ◌||◌, [], Bool, List, None, Option, Some, IsSome, ap, arith, false, get_or, inl, inr, is_some, length, min, not, refl, slice_set, subst, suc, sym, true, zero, ℕ}
+use Rattle.std.proofs.Common.{Err, Ok, Result, ℤ, ◌≡◌, ◌≢◌, ◌<◌, ◌≤◌, ◌&&◌, ◌++◌, ◌∙◌, ◌∷◌, ◌||◌, [], Bool, List, None, Option, Some, IsSome, ap, arith, false, get_or, inl, inr, is_some, length, min, not, refl, slice_set, subst, suc, sym, true, zero, ℕ}
+use Rattle.std.proofs.Math.Bool.{or-true}
 use Rattle.std.proofs.Math.Nat.{lt_of_not-le}
 use Rattle.std.specs.List.{list_any}
 use Rattle.std.specs.Prelude.{IfOk, IfSome, IsOk, OnErr, if◌then◌else◌}
 use Rattle.std.specs.declared.alloc.AllocError.{AllocError}
-use Rattle.std.proofs.Common.{Err, IfOk, List, None, Ok, OnErr, OnOk, Option, Result, Some, [], ap, get_or, inl, inr, refl, slice_set, subst, suc, sym, zero, ℕ, ◌∙◌, ◌∷◌, ◌≡◌}
 use Rattle.ep_base.specs.declared.answer.Answer.{Answer}
 use Rattle.ep_base.specs.declared.object.Raised.{Raised}
 use Rattle.std.proofs.lemmas.Bool.{false≢true}
@@ -14,20 +14,20 @@ use Rattle.ep_facts.proofs.NatFacts.{below_or, same_or_not}
 use Rattle.ep_names.proofs.NameLemmas.{same_is}
 use Rattle.ep_base.specs.declared.socket.Name.{Name}
 use Rattle.ep_machine.specs.Names.{is_there, same_name}
-use Rattle.ep_machine.specs.Effect.{Effect, first, unless}
-use Rattle.ep_machine.specs.Objects.{Object, ObjectCall, binds, close_end, connects, found_for, has_name, is_taken, name_in, object_effect, object_refusals}
-use Rattle.ep_names.specs.Names.{holds}
+use Rattle.ep_machine.specs.Effect.{Effect, attempt, first, unless}
+use Rattle.ep_machine.specs.Objects.{Object, ObjectCall, close_end, found_for, has_name, is_heard, is_listener, is_taken, listener, listens_at, name_in, object_effect, object_refusals}
+use Rattle.ep_names.specs.Names.{Taken, holds, owner_of}
 use Rattle.ep_object.specs.Asked.{found_in, takes_name}
 use Rattle.ep_object.proofs.AnswerLemmas.{waiting_is_given}
 use Rattle.ep_object.specs.Memory.{asked_of, object_waiting}
-use Rattle.ep_object.specs.Naming.{Gains, called}
+use Rattle.ep_object.specs.Naming.{Gains, NamesNobody, called}
 use Rattle.ep_base.specs.declared.call.Call.{Call}
-use Rattle.ep_base.specs.declared.call.Call.TheVariants.{Bind, Connect}
+use Rattle.ep_base.specs.declared.call.Call.TheVariants.{Bind, Connect, Listen}
 use Rattle.ep_base.specs.declared.errno.Errno.{Errno}
 use Rattle.ep_base.specs.declared.ids.Fd.{Fd}
 use Rattle.ep_base.specs.declared.ids.DescId.{DescId}
 use Rattle.ep_base.specs.declared.object.End.{End}
-use Rattle.ep_object.proofs.NamingLemmas.{close_keeps_name}
+use Rattle.ep_object.proofs.NamingLemmas.{close_keeps_name, nobody_named}
 use Rattle.ep_table.proofs.CloseLemmas.{closed_object}
 use Rattle.ep_table.specs.Closing.{closed_in, other_key}
 use Rattle.ep_table.specs.declared.words.Shared.{Shared}
@@ -62,6 +62,11 @@ module _ {X : Type 0} (p : X → Bool) where
   any_at [] d h = absurd (false≢true h)
   any_at (x ∷ xs) d h = elim (or_cases (p x) (list_any p xs) h) [ inl here ↦ (0, here) | inr rest ↦ let w = any_at xs d rest in (suc w.0, w.1) ]
 
+  pub passes_there : (xs : List X) (i : ℕ) (d : X) → p d ≡ false → p (get_or xs i d) ≡ true → list_any p xs ≡ true
+  passes_there [] i d none a = absurd (false≢true (sym none ∙ a))
+  passes_there (x ∷ xs) zero d none a = ap (λ (b : Bool). b || list_any p xs) a
+  passes_there (x ∷ xs) (suc i) d none a = ap (λ (b : Bool). p x || b) (passes_there xs i d none a) ∙ or-true (p x)
+
   pub none_pass : (xs : List X) (d : X) → ((i : ℕ) → p (get_or xs i d) ≡ true → ⊥) → list_any p xs ≡ false
   none_pass xs d h = is_false (list_any p xs) (λ e. let w = any_at xs d e in h w.0 w.1) where
     is_false : (b : Bool) → (b ≡ true → ⊥) → b ≡ false
@@ -74,7 +79,7 @@ module _ {X : Type 0} (p : X → Bool) where
   end_passes (x ∷ xs) y d zero h g a = a
   end_passes (x ∷ xs) y d (suc i) h g a = end_passes xs y d i h g a
 
-module _ (names : List Name) (os : List (Option Object)) (t : Taking names os) where
+module _ (names : Taken) (os : List (Option Object)) (t : Taking names os) where
   -- an object more, without a name
   pub taking_push : (x : Object) → name_in x ≡ None → Taking names (os ++ Some x ∷ [])
   taking_push x none =
@@ -104,7 +109,7 @@ module _ (names : List Name) (os : List (Option Object)) (t : Taking names os) w
         }
 
     -- it gets a name that was free
-    pub taking_named : (y : Object) (name : Name) (new : List Name) → name_in x ≡ None → name_in y ≡ Some name → is_taken os name ≡ false
+    pub taking_named : (y : Object) (name : Name) (new : Taken) → name_in x ≡ None → name_in y ≡ Some name → is_taken os name ≡ false
         → ((n : Name) → holds new n ≡ (same_name name n || holds names n)) → Taking new (slice_set os k (Some y))
     taking_named y name new nameless gets free more =
         let none = λ (n : Name). ap (has_name n) is ∙ ap (is_there n) nameless in
@@ -127,7 +132,7 @@ module _ (names : List Name) (os : List (Option Object)) (t : Taking names os) w
           none_there p (x ∷ xs) h (suc j) g = none_there p xs (rest_false (p x) (list_any p xs) h) j g
 
     -- it goes, and its name with it
-    pub taking_gone : (new : List Name) → ((n : Name) → holds new n ≡ (not (is_there n (name_in x)) && holds names n)) → Taking new (slice_set os k None)
+    pub taking_gone : (new : Taken) → ((n : Name) → holds new n ≡ (not (is_there n (name_in x)) && holds names n)) → Taking new (slice_set os k None)
     taking_gone new less = record {
       agree = λ n. less n ∙ (ap (λ (b : Bool). not (is_there n (name_in x)) && b) (t.agree n) ∙ by_test n (is_there n (name_in x)) (ap (has_name n) is));
       apart = λ i j n a b. t.apart i j n (was n i a) (was n j b);
@@ -145,28 +150,28 @@ module _ (names : List Name) (os : List (Option Object)) (t : Taking names os) w
       by_test n false h = sym (any_same (has_name n) os k None None within (sym h))
 
     -- what a call makes of the object
-    pub taking_called : (y : Object) (gained : Option Name) (new : List Name) → Gains x y gained → IsFree os gained
+    pub taking_called : (y : Object) (gained : Option Name) (new : Taken) → Gains x y gained → IsFree os gained
         → ((n : Name) → holds new n ≡ (is_there n gained || holds names n)) → Taking new (slice_set os k (Some y))
     taking_called y None new gains free more =
         let kept = taking_kept y gains in record { agree = λ n. more n ∙ kept.agree n; apart = kept.apart }
     taking_called y (Some name) new gains free more = taking_named y name new gains.0 gains.1 free more
 
+-- what is held, by who owns it
+pub more_held : (names new : Taken) (gained : Option Name) (at : ℕ) → ((n : Name) → owner_of new n ≡ (if is_there n gained then Some at else owner_of names n))
+    → (n : Name) → holds new n ≡ (is_there n gained || holds names n)
+more_held names new gained at more n = ap is_some (more n) ∙ by_test (is_there n gained) (owner_of names n) where
+  by_test : (b : Bool) (o : Option ℕ) → is_some (if b then Some at else o) ≡ (b || is_some o)
+  by_test true o = refl
+  by_test false o = refl
+
+pub less_held : (names new : Taken) (freed : Option Name) → ((n : Name) → owner_of new n ≡ (if is_there n freed then None else owner_of names n))
+    → (n : Name) → holds new n ≡ (not (is_there n freed) && holds names n)
+less_held names new freed less n = ap is_some (less n) ∙ by_test (is_there n freed) (owner_of names n) where
+  by_test : (b : Bool) (o : Option ℕ) → is_some (if b then None else o) ≡ (not b && is_some o)
+  by_test true o = refl
+  by_test false o = refl
+
 -- A call on an object, and the name that it gets by it.
-asks_for_none : (asked : ObjectCall) (name : Name) → found_in asked ≡ Some name → asked_of asked ≡ 0
-asks_for_none (binds space found) name h = refl
-asks_for_none (connects space found) name h = refl
-asks_for_none asked name h = cc
-
--- what gets a name is done
-pub named_is_done : (asked : ObjectCall) (gained : Option Name) (waiting : ℕ) → IfSome gained (λ name. found_in asked ≡ Some name) → IsSome gained → min (asked_of asked) waiting ≤ 16
-named_is_done asked None waiting found h = absurd (false≢true h)
-named_is_done asked (Some name) waiting found h = omega (arith, asks_for_none asked name found)
-
-pub gains_done : (r : Result (Answer × Raised) AllocError) (x y : Object) (f : Effect Object) (gained : Option Name) → Gains x f.1 gained → IfOk r (λ p. (p.0, y, p.1) ≡ f) → OnErr r (y ≡ x) → (IsSome gained → IsOk r) → Gains x y gained
-gains_done (Ok p) x y f gained gains ok err done = subst (λ (z : Object). Gains x z gained) (sym (ap (λ (q : Effect Object). q.1) ok)) gains
-gains_done (Err p) x y f None gains ok err done = ap name_in err
-gains_done (Err p) x y f (Some name) gains ok err done = absurd (false≢true (done refl))
-
 pub gained_is_free : (os : List (Option Object)) (asked : ObjectCall) (gained : Option Name) → IfSome gained (λ name. found_in asked ≡ Some name) → FindsFree os asked → IsFree os gained
 gained_is_free os asked None found free = tt
 gained_is_free os asked (Some name) found free = subst (IsFree os) found free
@@ -175,8 +180,14 @@ pub none_gained : (asked : ObjectCall) (gained : Option Name) → IfSome gained 
 none_gained asked None found h = refl
 none_gained asked (Some name) found h = absurd (false≢true (sym h ∙ ap is_some found))
 
+-- one by which nobody gets a name leaves the name, made or not
+pub name_left : (r : Result (Answer × Raised) AllocError) (x y : Object) (e : End) (now : ℕ) (asked : ObjectCall) → NamesNobody asked
+    → IfOk r (λ p. (p.0, y, p.1) ≡ attempt (object_refusals x e now asked) x (object_effect x e now asked)) → OnErr r (y ≡ x) → name_in y ≡ name_in x
+name_left (Ok p) x y e now asked nobody ok err = ap (λ (f : Effect Object). name_in f.1) ok ∙ nobody_named x e now asked nobody
+name_left (Err p) x y e now asked nobody ok err = ap name_in err
+
 -- An end of an object closes, and the object goes where that was the last.
-pub taking_closed : (names new : List Name) (os : List (Option Object)) → Taking names os → (k : ℕ) (s : Shared) (e : End) → get_or os k None ≡ Some s.object → (freed : Option Name) → freed ≡ freed_with (other_key s e) (closed_in s e).object
+pub taking_closed : (names new : Taken) (os : List (Option Object)) → Taking names os → (k : ℕ) (s : Shared) (e : End) → get_or os k None ≡ Some s.object → (freed : Option Name) → freed ≡ freed_with (other_key s e) (closed_in s e).object
     → ((n : Name) → holds new n ≡ (not (is_there n freed) && holds names n)) → Taking new (slice_set os k (if is_some (other_key s e) then Some (close_end s.object e).0 else None))
 taking_closed names new os t k s e is freed f less = by_key (other_key s e) f where
   same_name_then : name_in (closed_in s e).object ≡ name_in s.object
@@ -206,7 +217,41 @@ long_is_last (Err p) x e now asked inline =
     let long = lt_of_not-le (λ h. false≢true (inline h)) in waiting_is_given x e now asked (omega (arith, long))
 
 -- any other call gives no name
-pub none_found : (taken : Name → Bool) (call : Call) → ((fd : Fd) (name : Name) → call ≡ Bind fd name → ⊥) → ((fd : Fd) (name : Name) → call ≡ Connect fd name → ⊥) → None ≡ found_for taken call
-none_found taken (Bind fd name) b c = absurd (b fd name refl)
-none_found taken (Connect fd name) b c = absurd (c fd name refl)
-none_found taken call b c = refl
+pub none_found : (taken : Name → Bool) (call : Call) → ((fd : Fd) (name : Name) → call ≡ Bind fd name → ⊥) → ((fd : Fd) (backlog : ℤ) → call ≡ Listen fd backlog → ⊥)
+    → ((fd : Fd) (name : Name) → call ≡ Connect fd name → ⊥) → None ≡ found_for taken call
+none_found taken (Bind fd name) b l c = absurd (b fd name refl)
+none_found taken (Listen fd backlog) b l c = absurd (l fd backlog refl)
+none_found taken (Connect fd name) b l c = absurd (c fd name refl)
+none_found taken call b l c = refl
+
+-- nor is any other heard
+pub none_heard : (objects : List (Option Object)) (call : Call) → ((fd : Fd) (name : Name) → call ≡ Connect fd name → ⊥) → false ≡ is_heard objects call
+none_heard objects (Connect fd name) c = absurd (c fd name refl)
+none_heard objects call c = refl
+
+-- Who listens at a name: its owner, or nobody.
+module _ (names : Taken) (os : List (Option Object)) (t : Taking names os) (name : Name) where
+  abbrev hears : Option Object → Bool
+  hears o = listens_at name o
+
+  -- who listens has the name
+  named_there : (o : Option Object) → hears o ≡ true → has_name name o ≡ true
+  named_there (Some (listener l)) h = h
+  named_there o h = cc
+
+  listens_there : (x : Object) → is_there name (name_in x) ≡ true → hears (Some x) ≡ is_listener x
+  listens_there (listener l) h = h
+  listens_there x h = refl
+
+  pub owner_listens : (i : ℕ) (x : Object) → get_or os i None ≡ Some x → has_name name (Some x) ≡ true → is_listener x ≡ list_any hears os
+  owner_listens i x is has = sym (listens_there x has) ∙ by_own (hears (Some x)) refl where
+    by_own : (b : Bool) → hears (Some x) ≡ b → b ≡ list_any hears os
+    by_own true h = sym (passes_there hears os i None refl (ap hears is ∙ h))
+    by_own false h = sym (none_pass hears os None (λ j a.
+        let e : j ≡ i = t.apart j i name (named_there (get_or os j None) a) (ap (has_name name) is ∙ has) in
+        false≢true (sym h ∙ (ap hears (sym is ∙ ap (λ (m : ℕ). get_or os m None) (sym e)) ∙ a))))
+
+  pub nobody_listens : owner_of names name ≡ None → false ≡ list_any hears os
+  nobody_listens none = sym (none_pass hears os None (λ j a.
+      let taken : is_taken os name ≡ true = passes_there (has_name name) os j None refl (named_there (get_or os j None) a) in
+      false≢true (sym (ap is_some none) ∙ (t.agree name ∙ taken))))

@@ -9,7 +9,7 @@ use Rattle.ep_machine.specs.Files.{Place}
 use Rattle.ep_machine.specs.Lists.{numbered}
 use Rattle.ep_machine.specs.Objects.{Object}
 use Rattle.ep_table.specs.ByNumber.{NumberedBy, contents_by}
-use Rattle.ep_table.specs.Taking.{Taking}
+use Rattle.ep_table.specs.Taking.{AreOwners, Taking}
 use Rattle.ep_table.specs.Value.{Queue, Things, number_at}
 use Rattle.ep_table.specs.declared.store.Store.TheInside.{Inside}
 use Rattle.ep_table.specs.declared.words.Description.{Description}
@@ -114,3 +114,4 @@ pub record IsStore {A : Type 0} (k : Inside A) : Type 0 where
   pub keyed : AllKeyed (map key_number k.descriptions.slots) k.dying.items
   pub fewer : AllFewer k.descriptions.slots k.named
   pub taken : Taking k.taken (things k).objects
+  pub owners : AreOwners k.taken k.objects.slots

@@ -1,28 +1,33 @@
 //! Open file descriptions and their objects.
-ghost use Rattle.std.specs.Prelude.{◌≡◌, ◌+◌, ◌<◌, ◌≤◌, ◌^◌, [], false, IfNone, IfOk, IfSome, IsOk, IsSome, None, OnErr, OnOk, Some, length, map, min, slice_index_or, slice_set, vec_capacity, not, ◌&&◌, ◌||◌};
+ghost use Rattle.std.specs.Prelude.{◌≡◌, ◌+◌, ◌<◌, ◌≤◌, ◌^◌, [], false, IfNone, IfOk, IfSome, IsOk, IsSome, None};
+ghost use Rattle.std.specs.Prelude.{OnErr, OnOk, Some, length, map, min, slice_index_or, slice_set, vec_capacity};
+ghost use Rattle.std.specs.Prelude.{if◌then◌else◌, ℕ};
+ghost use Rattle.std.specs.List.{list_any};
 ghost use Rattle.slab.specs.Slab.{HasRoomFor, slab_len};
 ghost use Rattle.std.specs.Map.Iter.{ShowsInOrder};
 ghost use Rattle.ep_base.specs.declared.ids.DescId.{DescId};
 ghost use Rattle.ep_machine.specs.Effect.{first};
 ghost use Rattle.ep_machine.specs.Lists.{is_among, numbered};
 ghost use Rattle.ep_machine.specs.Files.{object_of, place_of, side_of};
+ghost use Rattle.ep_object.specs.Asked.{takes_name};
 ghost use Rattle.ep_object.specs.Memory.{asked_of};
 ghost use Rattle.ep_base.specs.declared.socket.Name.{Name as the_name};
 ghost use Rattle.ep_machine.specs.Names.{is_there};
-ghost use Rattle.ep_machine.specs.Objects.{close_end, found_for, is_taken, name_in};
-ghost use Rattle.ep_names.specs.Names.{holds};
-ghost use Rattle.ep_object.specs.Asked.{takes_name};
+ghost use Rattle.ep_machine.specs.Objects.{close_end, found_for, is_heard, is_taken, listens_at, name_in};
+ghost use Rattle.ep_names.specs.Names.{holds, owner_of};
 ghost use Rattle.ep_table.specs.Taking.{FindsFree, freed_slot};
 ghost use Rattle.ep_table.specs.Closing.{Dies, IsAt, across, closed_in, closed_slot, other_key, other_slot, raised_slot};
 ghost use Rattle.ep_table.specs.Live.{live_ids};
-ghost use Rattle.ep_table.specs.Value.{InsertsOne, InsertsTwo, SoundThings, count_at, files_in, less_at, more_at, number_at, objects_after, refusals_at, thing_effect, thing_number, thing_waiting};
+ghost use Rattle.ep_table.specs.Value.{InsertsOne, InsertsTwo, SoundThings, count_at, files_in, less_at, more_at};
+ghost use Rattle.ep_table.specs.Value.{number_at, objects_after, refusals_at, thing_effect, thing_number};
+ghost use Rattle.ep_table.specs.Value.{thing_waiting};
 
 use crate::dying_keys::DyingKeys;
 use crate::live::Live;
 use crate::words::{Dead, Description, Dying, Shared};
-use ep_base::{Answer, Call, DescId, End, Moment, Name, Raised};
+use ep_base::{Answer, Call, DescId, End, Moment, Name, Raised, Space};
 use ep_names::Names;
-use ep_object::{Object, ObjectCall};
+use ep_object::{NamingCall, Object, ObjectCall};
 use slab::Slab;
 use std::alloc::{AllocError, Allocator};
 use std::marker::Model;
@@ -120,22 +125,27 @@ fn other_in(shared: &Shared, end: End) -> Option<DescId>
     }
 }
 
-/// Takes the name that a socket gets, if it gets one. An `AllocError` leaves the names.
-fn take_gained<A: Allocator>(taken: &mut Names<A>, gained: Option<Name>) -> Result<(), AllocError>
-    ensures ok { OnOk result
-        ((n : the_name) → holds taken.new n ≡ (is_there n gained || holds taken.old n)) }
+/// Takes the name that the socket under this key gets, if it gets one. An `AllocError` leaves the names.
+fn take_gained<A: Allocator>(
+    taken: &mut Names<A>,
+    gained: Option<Name>,
+    at: usize,
+) -> Result<(), AllocError>
+    ensures ok { OnOk result ((n : the_name)
+        → owner_of taken.new n ≡ (if is_there n gained then Some at else owner_of taken.old n)) }
     ensures none { gained ≡ None → IsOk result }
     ensures err { OnErr result (taken.new ≡ taken.old) }
 {
     match gained {
-        Some(name) => taken.insert(name),
+        Some(name) => taken.insert(name, at),
         None => Ok(()),
     }
 }
 
 /// Frees the name that went with an object, if one did.
 fn free_name<A: Allocator>(taken: &mut Names<A>, name: Option<Name>)
-    ensures { (n : the_name) → holds taken.new n ≡ (not (is_there n name) && holds taken.old n) }
+    ensures { (n : the_name)
+        → owner_of taken.new n ≡ (if is_there n name then None else owner_of taken.old n) }
 {
     if let Some(name) = name {
         taken.remove(name);
@@ -225,14 +235,35 @@ impl<A: Allocator> Store<A> {
     }
 
     /// The name that is free for a call that gives its socket one: for a bind the one that it asks for, or any if that
-    /// is number 0; for a connect any of its space.
+    /// is number 0; for a listen any of IPv4, for a connect any of its space.
     pub fn found_for(&self, call: &Call) -> Option<Name>
         ensures { result ≡ found_for (is_taken self.now.objects) call.now }
     {
         match *call {
             Call::Bind { name, .. } => self.taken.free(name),
+            Call::Listen { .. } => self.taken.given(Space::V4),
             Call::Connect { name, .. } => self.taken.given(name.space),
             _ => None,
+        }
+    }
+
+    /// Whether a socket listens at this name.
+    fn hears(&self, name: Name) -> bool
+        ensures { result ≡ list_any (listens_at name) self.now.objects }
+    {
+        match self.taken.owner(name) {
+            Some(at) => self.objects[at].object.is_listener(),
+            None => false,
+        }
+    }
+
+    /// Whether a socket listens at the name by which a call connects.
+    pub fn is_heard(&self, call: &Call) -> bool
+        ensures { result ≡ is_heard self.now.objects call.now }
+    {
+        match *call {
+            Call::Connect { name, .. } => self.hears(name),
+            _ => false,
         }
     }
 
@@ -313,7 +344,7 @@ impl<A: Allocator> Store<A> {
         Ok((DescId(first), DescId(second)))
     }
 
-    /// A call on the object of a description, at the description's end.
+    /// A call on the object of a description, at the description's end, by which no socket gets a name.
     pub fn apply(
         &mut self,
         key: DescId,
@@ -321,22 +352,49 @@ impl<A: Allocator> Store<A> {
         call: &ObjectCall<'_>,
     ) -> Result<(Answer, Raised), AllocError>
         requires live { IsSome (number_at self.old.keys key) }
-        requires free { FindsFree self.old.objects call.now }
         ensures answer { IfOk result (λ r. r.0 ≡ (thing_effect self.old key now call.now).0) }
         ensures raised { IfOk result (λ r. r.1 ≡ (thing_effect self.old key now call.now).2) }
         ensures objects { OnOk result
             (self.new ≡ record self.old { objects = objects_after self.old key now call.now }) }
         ensures err { OnErr result (self.new ≡ self.old) }
-        ensures inline { takes_name call.now ≡ false
-            → min (asked_of call.now) (thing_waiting self.old key call.now) ≤ 16 → IsOk result }
+        ensures inline { min (asked_of call.now) (thing_waiting self.old key call.now) ≤ 16
+            → IsOk result }
         ensures last { OnErr result
             (first (refusals_at (files_in self.old) (thing_number self.old key) now call.now)
             ≡ None) }
     {
+        // (only the prover needs it)
+        call.known();
         let description = self.descriptions[key.0];
         let shared = &mut self.objects[description.object];
-        take_gained(&mut self.taken, shared.object.gains(call))?;
         shared.object.apply(description.end, now, call)
+    }
+
+    /// A bind, a listen or a connect of the socket of a description, if it is one.
+    pub fn apply_naming(
+        &mut self,
+        key: DescId,
+        call: &NamingCall<'_>,
+    ) -> Result<(Answer, Raised), AllocError>
+        requires live { IsSome (number_at self.old.keys key) }
+        requires free { FindsFree self.old.objects call.now }
+        ensures answer { IfOk result
+            (λ r. (now : ℕ) → r.0 ≡ (thing_effect self.old key now call.now).0) }
+        ensures raised { IfOk result
+            (λ r. (now : ℕ) → r.1 ≡ (thing_effect self.old key now call.now).2) }
+        ensures objects { OnOk result ((now : ℕ)
+            → self.new ≡ record self.old { objects = objects_after self.old key now call.now }) }
+        ensures err { OnErr result (self.new ≡ self.old) }
+        ensures inline { takes_name call.now ≡ false → IsOk result }
+        ensures last { OnErr result ((now : ℕ)
+            → first (refusals_at (files_in self.old) (thing_number self.old key) now call.now)
+            ≡ None) }
+    {
+        let description = self.descriptions[key.0];
+        let at = description.object;
+        let shared = &mut self.objects[at];
+        take_gained(&mut self.taken, shared.object.gains(call), at)?;
+        Ok(shared.object.apply_naming(call))
     }
 
     /// What always holds.

@@ -1,5 +1,6 @@
 //! The descriptor table of a process.
-ghost use Rattle.std.specs.Prelude.{◌≡◌, ◌<◌, ◌≤◌, ◌+◌, ◌∷◌, ◌^◌, [], IfOk, None, OnErr, OnOk, Some, drop, false, map, slice_index_or, slice_set, vec_capacity, vec_len};
+ghost use Rattle.std.specs.Prelude.{◌≡◌, ◌<◌, ◌≤◌, ◌+◌, ◌∷◌, ◌^◌, [], IfOk, None, OnErr, OnOk, Some, drop, false, map};
+ghost use Rattle.std.specs.Prelude.{slice_index_or, slice_set, vec_capacity, vec_len};
 ghost use Rattle.ep_machine.specs.Lists.{lowest_free, enter, place_at};
 ghost use Rattle.ep_table.specs.Flagged.{grown, kept};
 ghost use Rattle.ep_table.specs.Low.{IsLow};

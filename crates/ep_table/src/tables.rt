@@ -1,5 +1,6 @@
 //! The tables: processes, descriptors, open file descriptions and objects.
-ghost use Rattle.std.specs.Prelude.{◌≡◌, ◌+◌, ◌<◌, ◌≤◌, ◌^◌, ◌∷◌, [], ℕ, false, IfNone, IfOk, IfSome, IsOk, IsSome, None, OnErr, OnOk, Some, is_some, length, map, min, pos, true};
+ghost use Rattle.std.specs.Prelude.{◌≡◌, ◌+◌, ◌<◌, ◌≤◌, ◌^◌, ◌∷◌, [], ℕ, false, IfNone, IfOk, IfSome, IsOk, IsSome};
+ghost use Rattle.std.specs.Prelude.{None, OnErr, OnOk, Some, is_some, length, map, min, pos, true};
 ghost use Rattle.std.specs.Map.Iter.{ShowsInOrder};
 ghost use Rattle.ep_base.specs.declared.ids.DescId.{DescId};
 ghost use Rattle.ep_machine.specs.Deaths.{named_in_tables};
@@ -7,12 +8,14 @@ ghost use Rattle.ep_machine.specs.Effect.{first};
 ghost use Rattle.ep_machine.specs.Lists.{is_among, numbered};
 ghost use Rattle.ep_machine.specs.Files.{named_by, numbers_of, object_of, opening_files, place_of, side_of, table_of, under};
 ghost use Rattle.ep_machine.specs.Bits.{raises};
-ghost use Rattle.ep_machine.specs.Objects.{advance, found_for, is_taken, name_in, object_present};
-ghost use Rattle.ep_machine.specs.FilesCalls.{close_of, dup2_of, dup_of, fork_of, one_of, pipe_of, socketpair_of, two_of};
+ghost use Rattle.ep_machine.specs.Objects.{advance, found_for, is_heard, is_taken, name_in, object_present};
+ghost use Rattle.ep_machine.specs.FilesCalls.{accept_of, close_of, dup2_of, dup_of, fork_of, one_of, pipe_of, socketpair_of, two_of};
 ghost use Rattle.ep_machine.specs.Tables.{close, create_refusals, dup, exec, exit, fork, is_in_range, one_refusals, second_free, two_refusals};
 ghost use Rattle.ep_table.specs.Closing.{IsAt, Takes, across};
 ghost use Rattle.ep_table.specs.Live.{live_ids};
-ghost use Rattle.ep_table.specs.Value.{CreatesOne, CreatesTwo, Does, Gains, Sound, content_of, effect_under, files_after, holds_of, less_at, more_at, named_at, natural, number_found, number_of, number_under, refusals_at, waiting_at};
+ghost use Rattle.ep_table.specs.Value.{CreatesOne, CreatesTwo, Does, Gains, Sound, content_of, effect_under};
+ghost use Rattle.ep_table.specs.Value.{files_after, holds_of, less_at, more_at, named_at, natural, number_found};
+ghost use Rattle.ep_table.specs.Value.{number_of, number_under, refusals_at, waiting_at};
 ghost use Rattle.ep_object.specs.Asked.{takes_name};
 ghost use Rattle.ep_object.specs.Memory.{asked_of};
 ghost use Rattle.ep_table.specs.Taking.{FindsFree};
@@ -29,7 +32,7 @@ use crate::store::Store;
 use crate::table::Table;
 use crate::words::{Dead, Descriptor};
 use ep_base::{Answer, Call, DescId, End, Errno, Fd, Limits, Mask, Moment, Name, Pid, Raised};
-use ep_object::{Object, ObjectCall};
+use ep_object::{NamingCall, Object, ObjectCall};
 use std::alloc::{AllocError, Allocator, Global};
 use std::marker::Model;
 
@@ -437,6 +440,37 @@ impl<A: Allocator> Tables<A> {
         Ok(())
     }
 
+    /// How accept4(2) of a process that is there is refused. Linux tells of a full table before it looks at what the
+    /// descriptor names.
+    fn refuses_accept(&self, pid: Pid, fd: Fd) -> Errno
+        ensures { first (accept_of self.now.limits self.now.files pid.0 fd.0).refusals ≡ Some result }
+    {
+        let Some(description) = self.lookup(pid, fd) else {
+            return Errno::Ebadf;
+        };
+        if self.limits.descriptors() as usize <= lowest(&self.processes, pid) {
+            return Errno::Emfile;
+        }
+        let object = self.object(description);
+        if !object.is_socket() {
+            return Errno::Enotsock;
+        }
+        match self.refuses_one(pid) {
+            Some(errno) => errno,
+            None if object.is_listener() => Errno::Eagain,
+            None => Errno::Einval,
+        }
+    }
+
+    /// accept4(2) of a process that is there: nothing waits at a listener yet, so it is refused. EBADF if `fd` names
+    /// nothing, EMFILE if none of the process's numbers is free, ENOTSOCK if `fd` names no socket, ENFILE if the limit
+    /// of live descriptions is reached, EINVAL if the socket doesn't listen, else EAGAIN.
+    pub fn accept(&self, pid: Pid, fd: Fd) -> Answer
+        ensures { Does (accept_of self.now.limits self.now.files pid.0 fd.0) result self.now self.now }
+    {
+        Answer::Refused(self.refuses_accept(pid, fd))
+    }
+
     /// fork(2): a new process with a copy of the table of a process that is there, flags included, which
     /// shares the descriptions. The answer is its number, which is never used again. Refused, with
     /// nothing changed: EAGAIN where as many processes live as the limit allows. An `AllocError` leaves
@@ -629,17 +663,25 @@ impl<A: Allocator> Tables<A> {
     }
 
     /// The name that is free for a call that gives its socket one: for a bind the one that it asks for, or any if that
-    /// is number 0; for a connect any of its space. `None` where there is none, and for any other call.
+    /// is number 0; for a listen any of IPv4, for a connect any of its space. `None` if there is none, and for any
+    /// other call.
     pub fn found_for(&self, call: &Call) -> Option<Name>
         ensures { result ≡ found_for (is_taken self.now.files.objects) call.now }
     {
         self.store.found_for(call)
     }
 
-    /// A call on the object of a live description, at its end: what it is answered at the moment
-    /// `now`, and what it raises at the ends of the object. An `AllocError` leaves the tables. It comes only if nothing
-    /// refuses the call: if a read or a peek asks for more than 16 bytes and more than 16 wait, or if a socket gets a
-    /// name. The time grows with the bytes that are moved.
+    /// Whether a socket listens at the name by which a call connects; no other call is heard.
+    pub fn is_heard(&self, call: &Call) -> bool
+        ensures { result ≡ is_heard self.now.files.objects call.now }
+    {
+        self.store.is_heard(call)
+    }
+
+    /// A call on the object of a live description, at its end, by which no socket gets a name: what it is answered at
+    /// the moment `now`, and what it raises at the ends of the object. An `AllocError` leaves the tables. It comes only
+    /// if nothing refuses the call, and a read or a peek asks for more than 16 bytes and more than 16 wait. The time
+    /// grows with the bytes that are moved.
     pub fn apply(
         &mut self,
         desc: DescId,
@@ -647,18 +689,41 @@ impl<A: Allocator> Tables<A> {
         call: &ObjectCall<'_>,
     ) -> Result<(Answer, Raised), AllocError>
         requires live { IsSome (number_under self.old desc) }
-        requires free { FindsFree self.old.files.objects call.now }
         ensures answer { IfOk result (λ r. r.0 ≡ (effect_under self.old desc now call.now).0) }
         ensures raised { IfOk result (λ r. r.1 ≡ (effect_under self.old desc now call.now).2) }
         ensures files { OnOk result
             (self.new ≡ record self.old { files = files_after self.old desc now call.now }) }
         ensures err { OnErr result (self.new ≡ self.old) }
-        ensures inline { takes_name call.now ≡ false → min (asked_of call.now)
+        ensures inline { min (asked_of call.now)
             (waiting_at self.old.files (number_of self.old desc) call.now) ≤ 16 → IsOk result }
         ensures last { OnErr result (first (refusals_at self.old.files
             (number_of self.old desc) now call.now) ≡ None) }
     {
         self.store.apply(desc, now, call)
+    }
+
+    /// A bind, a listen or a connect of the socket of a live description, for which the name that is free was found:
+    /// what it is answered, and what it raises. An `AllocError` leaves the tables. It comes only if nothing refuses the
+    /// call and the socket gets a name.
+    pub fn apply_naming(
+        &mut self,
+        desc: DescId,
+        call: &NamingCall<'_>,
+    ) -> Result<(Answer, Raised), AllocError>
+        requires live { IsSome (number_under self.old desc) }
+        requires free { FindsFree self.old.files.objects call.now }
+        ensures answer { IfOk result
+            (λ r. (now : ℕ) → r.0 ≡ (effect_under self.old desc now call.now).0) }
+        ensures raised { IfOk result
+            (λ r. (now : ℕ) → r.1 ≡ (effect_under self.old desc now call.now).2) }
+        ensures files { OnOk result ((now : ℕ)
+            → self.new ≡ record self.old { files = files_after self.old desc now call.now }) }
+        ensures err { OnErr result (self.new ≡ self.old) }
+        ensures inline { takes_name call.now ≡ false → IsOk result }
+        ensures last { OnErr result ((now : ℕ) → first (refusals_at self.old.files
+            (number_of self.old desc) now call.now) ≡ None) }
+    {
+        self.store.apply_naming(desc, call)
     }
 
     /// What always holds: no number stands under two keys, a key's number is live and has an object,

@@ -3,6 +3,7 @@ use Rattle.slab.specs.Slab.{slab_len}
 use Rattle.std.proofs.Common.{count_by, is_some}
 use Rattle.ep_base.specs.declared.object.End.TheVariants.{First}
 use Rattle.ep_machine.specs.Objects.{Object}
+use Rattle.ep_table.proofs.OwnersLemmas.{owners_more}
 use Rattle.ep_table.proofs.TakingLemmas.{taking_push}
 use Rattle.ep_table.specs.Taking.{Taking}
 use Rattle.ep_table.specs.Stored.{counts, holds_in, names_in, objects, AllKeyed, key_number, queued, number_in, object_in, object_number_in, place_in, places}
@@ -52,6 +53,7 @@ invariant_of-self-2 g c =
       keyed = subst (λ (xs : List Dying). AllKeyed (map key_number c.insert_reserved-key.new.self.slots) xs) (sym c.reserve.ensures.dying) (keyed_more (map key_number k.descriptions.slots) (map key_number c.insert_reserved-key.new.self.slots) (record { 0 = c.insert_reserved-key.result }) k.described (keys_more k.descriptions.slots c.insert_reserved-key.new.self.slots c.insert_reserved-key.result (record { number = k.described; object_number = k.made; object = c.vacant_key-at.result; end = First; names = 1; holds = 0 }) a) k.dying.items c.self.invariant.keyed);
       fewer = fewer_one k.descriptions.slots c.insert_reserved-key.new.self.slots k.objects.slots c.insert_reserved.new.self.slots k.described k.made c.insert_reserved-key.result c.vacant_key-at.result c.args.object a b h k.named c.self.invariant.fewer;
       taken = subst (λ (xs : List (Option Object)). Taking k.taken xs) (sym (objects_one k.descriptions.slots c.insert_reserved-key.new.self.slots k.objects.slots c.insert_reserved.new.self.slots k.described k.made c.insert_reserved-key.result c.vacant_key-at.result c.args.object a b h)) (taking_push k.taken (objects k.objects.slots k.made) c.self.invariant.taken c.args.object c.requires);
+      owners = owners_more k.taken k.objects.slots c.insert_reserved.new.self.slots c.vacant_key-at.result _ (shared g c) c.self.invariant.owners;
     }
 
 pub returns-clause-ok : goal.returns-clause-ok

@@ -8,6 +8,7 @@ use Rattle.ep_table.specs.declared.words.Dying.{Dying}
 use Rattle.ep_table.specs.declared.words.Shared.{Shared}
 use Rattle.ep_table.proofs.QueueLemmas.{keyed_more}
 use Rattle.ep_machine.specs.Objects.{Object}
+use Rattle.ep_table.proofs.OwnersLemmas.{owners_more}
 use Rattle.ep_table.proofs.TakingLemmas.{taking_push}
 use Rattle.ep_table.specs.Taking.{Taking}
 use Rattle.ep_table.proofs.InsertLemmas.{objects_two, fewer_two, keys_more, queue_two, Inserted, counted_two, holds_of, holds_two, inserted, inserts_two}
@@ -56,6 +57,7 @@ invariant_of-self-2 g c =
           (keyed_more (map key_number k.descriptions.slots) (map key_number c.insert_reserved-first.new.self.slots) (record { 0 = c.insert_reserved-first.result }) k.described (keys_more k.descriptions.slots c.insert_reserved-first.new.self.slots c.insert_reserved-first.result (record { number = k.described; object_number = k.made; object = c.vacant_key-at.result; end = First; names = 1; holds = 0 }) (first_in g c)) k.dying.items c.self.invariant.keyed));
       fewer = fewer_two k.descriptions.slots c.insert_reserved-first.new.self.slots c.insert_reserved-second.new.self.slots k.objects.slots c.insert_reserved.new.self.slots k.described k.made c.insert_reserved-first.result c.insert_reserved-second.result c.vacant_key-at.result c.args.object (first_in g c) (second_in g c) (shared_in g c) h k.named c.self.invariant.fewer;
       taken = subst (λ (xs : List (Option Object)). Taking k.taken xs) (sym (objects_two k.descriptions.slots c.insert_reserved-first.new.self.slots c.insert_reserved-second.new.self.slots k.objects.slots c.insert_reserved.new.self.slots k.described k.made c.insert_reserved-first.result c.insert_reserved-second.result c.vacant_key-at.result c.args.object (first_in g c) (second_in g c) (shared_in g c) h)) (taking_push k.taken (objects k.objects.slots k.made) c.self.invariant.taken c.args.object c.requires);
+      owners = owners_more k.taken k.objects.slots c.insert_reserved.new.self.slots c.vacant_key-at.result _ (shared_in g c) c.self.invariant.owners;
     }
 
 pub returns-clause-ok : goal.returns-clause-ok

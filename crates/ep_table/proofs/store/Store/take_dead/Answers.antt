@@ -11,8 +11,9 @@ use Rattle.ep_table.specs.declared.words.Shared.{Shared}
 use Rattle.ep_table.proofs.CloseLemmas.{backed_left, counted_left, numbered_left, objects_left, objects_shut, owned_left}
 use Rattle.ep_machine.specs.Objects.{Object}
 use Rattle.ep_table.proofs.ByNumberLemmas.{content_there}
-use Rattle.ep_table.proofs.TakingLemmas.{taking_closed}
-use Rattle.ep_table.specs.Taking.{Taking, freed_slot}
+use Rattle.ep_table.proofs.OwnersLemmas.{owners_closed}
+use Rattle.ep_table.proofs.TakingLemmas.{less_held, taking_closed}
+use Rattle.ep_table.specs.Taking.{AreOwners, Taking, freed_slot}
 use Rattle.ep_table.proofs.DieLemmas.{dies, fewer_left, keyed_left, queue_left}
 use Rattle.ep_table.proofs.QueueLemmas.{keyed_last}
 use Rattle.ep_table.proofs.SoundLemmas.{there}
@@ -69,7 +70,11 @@ invariant_of-self-2 g c =
           subst (λ (xs : List (Option Object)). Taking c.free_name.new.taken xs)
           (sym (ap (λ (ys : List (Option Shared)). objects ys k.made) g ∙ objects_shut ds os k.described k.made i.descriptions i.objects i.backed i.owned last.key d is))
           (taking_closed k.taken c.free_name.new.taken (objects os k.made) i.taken b.it.number b.it d.end (content_there object_number_in object_in os k.made i.objects d.object b.it b.is)
-          c.close-other.result.2 (c.close-other.ensures.name ∙ ap (λ (o : Option Shared). freed_slot o d.end) b.is) c.free_name.ensures);
+          c.close-other.result.2 (c.close-other.ensures.name ∙ ap (λ (o : Option Shared). freed_slot o d.end) b.is) (less_held k.taken c.free_name.new.taken c.close-other.result.2 c.free_name.ensures));
+      owners =
+          let b = i.backed last.key.0 d is in
+          subst (λ (xs : List (Option Shared)). AreOwners c.free_name.new.taken xs) (sym g)
+          (owners_closed k.taken c.free_name.new.taken os i.owners d.object b.it b.is d.end c.close-other.result.2 (c.close-other.ensures.name ∙ ap (λ (o : Option Shared). freed_slot o d.end) b.is) c.free_name.ensures);
     }
 
 pub returns-clause-some : goal.returns-clause-some
