@@ -8,10 +8,19 @@ use Rattle.ep_machine.specs.Files.{Files, under}
 use Rattle.ep_machine.specs.Objects.{ObjectCall, asks}
 use Rattle.ep_table.specs.Value.{Seen, number_under as desc_number}
 
--- its number, if a call that is taken apart so is on an object, and its descriptor names one
+-- the descriptor of a call that is taken apart so, if it is on an object
+abbrev pub fd_in : Option (Fd × ObjectCall) → Option Fd
+fd_in None = None
+fd_in (Some on) = Some on.0
+
+-- what that names
+abbrev pub under_in : Files → ℕ → Option Fd → Option ℕ
+under_in files p None = None
+under_in files p (Some fd) = under files p fd.0
+
+-- its number, if the call is on an object, and its descriptor names one
 abbrev pub asked_in : Files → ℕ → Option (Fd × ObjectCall) → Option ℕ
-asked_in files p None = None
-asked_in files p (Some on) = under files p on.0.0
+asked_in files p on = under_in files p (fd_in on)
 
 abbrev pub called_in : Files → Event → Option ℕ
 called_in files (CallOf p call) = asked_in files p.0 (asks files.objects call)

@@ -1,11 +1,32 @@
 //! The description on whose object an event is a call.
-ghost use Rattle.std.specs.Prelude.{◌≡◌, IfSome, IsSome};
-ghost use Rattle.ep_alarms.specs.Called.{IsCalled};
+ghost use Rattle.std.specs.Prelude.{◌≡◌, IfSome, IsSome, None, false};
+ghost use Rattle.ep_alarms.specs.Called.{IsCalled, fd_in};
+ghost use Rattle.ep_machine.specs.Objects.{object_call};
 ghost use Rattle.ep_table.specs.Value.{number_under};
 
-use ep_base::{DescId, Event};
+use ep_base::{Call, DescId, Event, Fd};
 use ep_calls::Parts;
-use ep_object::ObjectCall;
+
+/// The descriptor on whose object a call is. `None` of a call that is on none.
+#[inline(always)]
+fn called_descriptor(call: &Call) -> Option<Fd>
+    ensures { result ≡ fd_in (object_call None false call.now) }
+{
+    match *call {
+        Call::Read { fd, .. }
+        | Call::Write { fd, .. }
+        | Call::Peek { fd, .. }
+        | Call::Shutdown { fd, .. }
+        | Call::TakeError { fd }
+        | Call::SocketName { fd, .. }
+        | Call::Bind { fd, .. }
+        | Call::Listen { fd, .. }
+        | Call::Connect { fd, .. }
+        | Call::SetTime { fd, .. }
+        | Call::GetTime { fd } => Some(fd),
+        _ => None,
+    }
+}
 
 /// The description on whose object an event is a call. `None` if it is no such call, or its descriptor names nothing.
 pub fn find_called(parts: &Parts, event: &Event) -> Option<DescId>
@@ -15,7 +36,6 @@ pub fn find_called(parts: &Parts, event: &Event) -> Option<DescId>
     let Event::Call { pid, call } = event else {
         return None;
     };
-    // (which name is free for it plays no part)
-    let (fd, _) = ObjectCall::of(call, None)?;
+    let fd = called_descriptor(call)?;
     parts.tables.lookup(*pid, fd)
 }

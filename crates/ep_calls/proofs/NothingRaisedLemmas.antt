@@ -38,7 +38,7 @@ use Rattle.ep_table.specs.Value.{Seen}
 -- any call but one on the object that a descriptor names, and epoll_ctl
 abbrev pub IsOffObject : Call → Type 0
 IsOffObject (EpollCtl epfd op fd mask tag) = ⊥
-IsOffObject call = object_call None call ≡ None
+IsOffObject call = object_call None false call ≡ None
 
 -- as a call on the tables alone is
 pub off_object : (call : Call) → IsTableCall call → IsOffObject call

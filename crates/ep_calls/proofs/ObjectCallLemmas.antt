@@ -23,6 +23,11 @@ use Rattle.ep_machine.specs.FilesCalls.{FilesCall}
 use Rattle.ep_calls.specs.ObjectCall.{FitsRoom, object_call_of}
 use Rattle.ep_table.specs.Value.{Does, Refuses, Seen, Succeeds, content_of, effect_at, holds_of, number_of, number_under}
 use Rattle.ep_base.specs.declared.ids.DescId.{DescId}
+use Rattle.ep_base.specs.declared.call.Call.{Call}
+use Rattle.ep_base.specs.declared.socket.Name.{Name}
+use Rattle.ep_base.specs.declared.ids.Fd.{Fd}
+use Rattle.ep_object.specs.Asked.{asked_in, naming_call}
+use Rattle.ep_base.specs.declared.call.Call.TheVariants.{Bind, Connect, Listen}
 
 -- what is given has room for a copy
 given_fits : (answer : Answer) (asked waiting : ℕ) (room : SmallVec ℕ 16 Global) → GivesAtMost (min asked (max 16 waiting)) answer → HasRoomFor room 16 → HasRoomFor room (min asked waiting) → FitsRoom answer room
@@ -62,6 +67,17 @@ pub fits_settled : (x : Object) (e : End) (now : ℕ) (asked : ObjectCall) → m
 fits_settled x e now asked h =
     unless_settled (first (object_refusals x e now asked)) x (object_effect x e now asked)
     (λ none. given_settled (object_effect x e now asked).0 (asked_of asked) (object_waiting x e asked) (gives_few x e now asked none) h)
+
+-- a bind, a listen or a connect asks for no bytes
+names_for_none : (found : Option Name) (heard : Bool) (call : Call) (on : Fd × ObjectCall) → naming_call found heard call ≡ Some on → asked_of on.1 ≡ 0
+names_for_none found heard (Bind fd name) on h = ap (λ (o : Option (Fd × ObjectCall)). asked_of (asked_in o)) (sym h)
+names_for_none found heard (Listen fd backlog) on h = ap (λ (o : Option (Fd × ObjectCall)). asked_of (asked_in o)) (sym h)
+names_for_none found heard (Connect fd name) on h = ap (λ (o : Option (Fd × ObjectCall)). asked_of (asked_in o)) (sym h)
+names_for_none found heard call on h = cc
+
+pub naming_settled : (x : Object) (e : End) (now : ℕ) (call : Call) (found : Option Name) (heard : Bool) (on : Fd × ObjectCall) → naming_call found heard call ≡ Some on
+    → IsSettled (attempt (object_refusals x e now on.1) x (object_effect x e now on.1)).0
+naming_settled x e now call found heard on h = let none = names_for_none found heard call on h in fits_settled x e now on.1 (omega (arith, none))
 
 -- writing back what stands there changes nothing
 set_same : (xs : List (Option Object)) (k : ℕ) (x : Object) → slice_index_or xs k None ≡ Some x → slice_set xs k (Some x) ≡ xs

@@ -110,17 +110,23 @@ object_does p new pid fd asked outcome h calls raises picked is n caller call on
     }
 
 -- a descriptor that names nothing is refused
+pub unnamed_calls : (p : Parts) (pid : ℕ) (fd : Fd) (asked : ObjectCall) (outcome : Outcome) → under p.tables.files pid fd.0 ≡ None
+    → outcome.answer ≡ Refused Ebadf → CallsObject pid fd p.clock asked outcome.answer p.tables p.tables
+unnamed_calls p pid fd asked outcome none answer =
+    let v = p.tables in
+    let c = object_call_of v.files pid fd.0 p.clock asked in
+    let tests = object_refusals (object_under v.files pid fd.0) (side_under v.files pid fd.0) p.clock asked in
+    let refuses : Refuses Ebadf outcome.answer v v = record { answers = answer; tables = refl } in
+    subst (λ (b : Bool). MatchOption (first ((b, Ebadf) ∷ tests)) (Succeeds c outcome.answer v v) (λ e. Refuses e outcome.answer v v)) (sym (ap is_none none)) refuses
+
 pub unnamed_does : (p : Parts) (pid : ℕ) (fd : Fd) (asked : ObjectCall) (outcome : Outcome) → AreCoherent p → under p.tables.files pid fd.0 ≡ None
     → outcome.answer ≡ Refused Ebadf → outcome.picked ≡ [] → outcome.raising ≡ Nowhere
     → (n caller : ℕ) (call : Call) → asks p.tables.files.objects call ≡ Some (fd, asked) → DoesCall n caller pid call outcome p p
 unnamed_does p pid fd asked outcome h none answer picked raising =
     let v = p.tables in
-    let c = object_call_of v.files pid fd.0 p.clock asked in
     let tests = object_refusals (object_under v.files pid fd.0) (side_under v.files pid fd.0) p.clock asked in
     let nothing_named : names_nothing v.files pid fd.0 ≡ true = ap is_none none in
-    let refuses : Refuses Ebadf outcome.answer v v = record { answers = answer; tables = refl } in
-    let calls : CallsObject pid fd p.clock asked outcome.answer v v =
-    subst (λ (b : Bool). MatchOption (first ((b, Ebadf) ∷ tests)) (Succeeds c outcome.answer v v) (λ e. Refuses e outcome.answer v v)) (sym nothing_named) refuses in
+    let calls = unnamed_calls p pid fd asked outcome none answer in
     let raises : RaisesByCall v v pid fd.0 p.clock asked outcome.raising =
     subst (λ (b : Bool). MatchOption (first ((b, Ebadf) ∷ tests)) (AsRaised outcome.raising v p.clock (affected_raises v.files (named_by v.files pid fd.0) (object_effect_of v.files pid fd.0 p.clock asked))) (λ e. AsRaised outcome.raising v p.clock [])) (sym nothing_named)
     (λ d. sym (ap (λ (r : Raising). raised_bits r v p.clock d) raising)) in

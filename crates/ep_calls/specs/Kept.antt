@@ -1,5 +1,5 @@
 -- Which outcomes have what a second record of their event is made of.
-use Rattle.std.specs.Prelude.{◌≡◌, Bool, None, Option, Some, true}
+use Rattle.std.specs.Prelude.{◌≡◌, Bool, None, Option, Some, false, true}
 use Rattle.ep_base.specs.declared.call.Call.{Call}
 use Rattle.ep_base.specs.declared.call.Call.TheVariants.{EpollWait}
 use Rattle.ep_base.specs.declared.call.Event.{Event}
@@ -20,7 +20,7 @@ KeepsAsked (Some on) kept outcome = IsKept kept outcome
 
 abbrev pub KeepsCall : Call → Bool → Outcome → Type 0
 KeepsCall (EpollWait epfd most timeout) kept outcome = IsKept kept outcome
-KeepsCall call kept outcome = KeepsAsked (object_call None call) kept outcome
+KeepsCall call kept outcome = KeepsAsked (object_call None false call) kept outcome
 
 abbrev pub KeepsEvent : Event → Bool → Outcome → Type 0
 KeepsEvent (CallOf pid call) kept outcome = KeepsCall call kept outcome

@@ -1,5 +1,7 @@
 //! epoll_ctl.
-ghost use Rattle.std.specs.Prelude.{All, Bool, ◌≡◌, ◌≢◌, ◌==◌, ◌+◌, ◌++◌, ◌∷◌, ◌≤◌, ◌||◌, ℕ, [], if◌then◌else◌, IfErr, IfNone, IfOk, IfSome, IsOk, IsSome, MatchResult, None, OnErr, Some, false, length, not, true, unwrap_or};
+ghost use Rattle.std.specs.Prelude.{All, Bool, ◌≡◌, ◌≢◌, ◌==◌, ◌+◌, ◌++◌, ◌∷◌, ◌≤◌, ◌||◌, ℕ, [], if◌then◌else◌, IfErr};
+ghost use Rattle.std.specs.Prelude.{IfNone, IfOk, IfSome, IsOk, IsSome, MatchResult, None, OnErr, Some, false, length};
+ghost use Rattle.std.specs.Prelude.{not, true, unwrap_or};
 ghost use Rattle.std.specs.List.{list_any};
 ghost use Rattle.ep_base.specs.declared.answer.Answer.TheVariants.{Done};
 ghost use Rattle.ep_machine.specs.Bits.{exclusive_bits, has_only};
@@ -9,7 +11,11 @@ ghost use Rattle.ep_calls.specs.Acts.{is_no_memory};
 ghost use Rattle.ep_machine.specs.Watches.{is_add, is_legal, is_mod};
 ghost use Rattle.ep_nest.specs.Links.{edges, without};
 ghost use Rattle.ep_calls.specs.Climb.{AreNested, KeepsLinks, is_nested_key};
-ghost use Rattle.ep_calls.specs.Control.{Alters, ChangesIf, Controls, EntersAt, IsBelow, IsFound, IsPlan, Names, TellsBelow, addition, code_of, control_call, is_deep_at, is_done, is_exclusive_at, is_refused_exclusive, is_refused_op, key_left, raising_of_ctl, naming_refusals, next_entry, next_link, raising_after, room_refusals};
+ghost use Rattle.ep_calls.specs.Control.{Alters, ChangesIf, Controls, EntersAt, IsBelow, IsFound, IsPlan, Names};
+ghost use Rattle.ep_calls.specs.Control.{TellsBelow, addition, code_of, control_call, is_deep_at, is_done};
+ghost use Rattle.ep_calls.specs.Control.{is_exclusive_at, is_refused_exclusive, is_refused_op, key_left};
+ghost use Rattle.ep_calls.specs.Control.{raising_of_ctl, naming_refusals, next_entry, next_link, raising_after};
+ghost use Rattle.ep_calls.specs.Control.{room_refusals};
 ghost use Rattle.ep_calls.specs.Last.{NothingRefusesCall};
 ghost use Rattle.ep_interest.specs.Registrations.{GainsKey, has_key, number_under as number_of_entry};
 ghost use Rattle.ep_calls.specs.Does.{DoesCall};

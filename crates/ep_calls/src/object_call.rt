@@ -4,7 +4,6 @@ ghost use Rattle.ep_object.specs.Memory.{asked_of};
 ghost use Rattle.ep_calls.specs.Acts.{is_no_memory};
 ghost use Rattle.ep_calls.specs.Kept.{IsKept};
 ghost use Rattle.ep_calls.specs.ObjectCall.{AppliesAt, FitsRoom, waiting_at};
-ghost use Rattle.ep_table.specs.Taking.{FindsFree};
 ghost use Rattle.ep_table.specs.Value.{number_under};
 ghost use Rattle.smallvec.specs.SmallVec.{HasRoomFor};
 
@@ -175,7 +174,6 @@ impl Parts {
         kept: bool,
     ) -> Result<Outcome, AllocError>
         requires live { IsSome (number_under self.old.tables desc) }
-        requires free { FindsFree self.old.tables.files.objects asked.now }
         ensures ok { IfOk result
             (λ outcome. AppliesAt desc self.old.clock asked.now outcome self.old.tables
             self.new.tables) }

@@ -125,7 +125,7 @@ fn answer_of(
         Call::Fork => tables.fork(pid),
         Call::Exec => Ok(exec(tables, waiters, pid)),
         Call::Exit => Ok(exit(tables, waiters, pid)),
-        Call::Listen { .. } | Call::Accept { .. } => Ok(Answer::Refused(Errno::Einval)),
+        Call::Accept { fd, .. } => Ok(tables.accept(pid, fd)),
         _ => unreachable!(),
     }
 }
