@@ -201,35 +201,40 @@ fn connect(fd: i32) -> Call {
     }
 }
 
-/// How binds and connects by a name of TCP are refused where nothing has the number 9, 5 is an eventfd and 3 an end of
-/// a pair, and how what listens is, whatever its number names.
-fn without_a_fresh_socket() -> [(Call, Errno); 8] {
+fn listen(fd: i32, backlog: i32) -> Call {
+    Call::Listen {
+        fd: Fd(fd),
+        backlog,
+    }
+}
+
+fn accept(fd: i32) -> Call {
+    Call::Accept {
+        fd: Fd(fd),
+        cloexec: false,
+    }
+}
+
+/// How calls of connecting are refused where nothing has the number 9, 5 is an eventfd and 3 an end of a pair.
+fn without_a_fresh_socket() -> [(Call, Errno); 12] {
     [
         (bind(9), Errno::Ebadf),
         (connect(9), Errno::Ebadf),
+        (listen(9, 5), Errno::Ebadf),
+        (accept(9), Errno::Ebadf),
         (bind(5), Errno::Enotsock),
         (connect(5), Errno::Enotsock),
+        (listen(5, 5), Errno::Enotsock),
+        (accept(5), Errno::Enotsock),
         (bind(3), Errno::Einval),
         (connect(3), Errno::Einval),
-        (
-            Call::Listen {
-                fd: Fd(9),
-                backlog: 5,
-            },
-            Errno::Einval,
-        ),
-        (
-            Call::Accept {
-                fd: Fd(3),
-                cloexec: true,
-            },
-            Errno::Einval,
-        ),
+        (listen(3, 5), Errno::Einval),
+        (accept(3), Errno::Einval),
     ]
 }
 
-/// Each call of sockets is refused: EBADF where a number names nothing, ENOTSOCK of an eventfd, EINVAL of what an end
-/// of a pair can't do, and of what listens.
+/// Each call of sockets is refused: EBADF where a number names nothing, ENOTSOCK of an eventfd, and EINVAL of what an
+/// end of a pair can't do.
 struct Refused;
 
 impl Script for Refused {
@@ -250,7 +255,7 @@ impl Script for Refused {
         for (each, errno) in without_a_fresh_socket() {
             assert!(rt; call(&mut kernel, each) == Answer::Refused(errno));
         }
-        assert!(rt; is_run(rt.alloc(), &kernel, 20));
+        assert!(rt; is_run(rt.alloc(), &kernel, 24));
         Ok(())
     }
 }
@@ -381,5 +386,92 @@ impl Script for Binds {
 #[test]
 fn a_name_is_free_when_its_socket_dies(rt: HostRuntime) -> Result<(), Fail> {
     on_both_kernels(&rt, &Binds)?;
+    Ok(())
+}
+
+/// What a TCP socket that listens refuses.
+fn of_a_listener() -> [(Call, Errno); 6] {
+    [
+        (write(3, 1), Errno::Epipe),
+        (Call::Peek { fd: Fd(3), n: 1 }, Errno::Enotconn),
+        (shut(3, How::Both), Errno::Enotconn),
+        (bind(3), Errno::Einval),
+        (connect(3), Errno::Eisconn),
+        (accept(3), Errno::Eagain),
+    ]
+}
+
+/// A TCP socket listens, and is given a name by that. It listens once more, with another backlog. Nothing of it can be
+/// read or accepted, and it connects to nobody. When it is closed, the next one that listens is given that name.
+struct Listens;
+
+impl Script for Listens {
+    fn run<K: Kernel + Drop, R: Abort + AllocGlobal + Wait>(
+        &self,
+        rt: &R,
+        mut kernel: K,
+    ) -> Result<(), AllocError> {
+        for number in [3, 4] {
+            let socket = Call::Socket {
+                family: Family::Tcp,
+                cloexec: false,
+            };
+            assert!(rt; call(&mut kernel, socket) == Answer::Num(number));
+        }
+        for backlog in [5, -1, 100_000] {
+            assert!(rt; call(&mut kernel, listen(3, backlog)) == Answer::Done);
+            assert!(rt; call(&mut kernel, own_name(3)) == Answer::Named(Some(GIVEN)));
+        }
+        for (each, errno) in of_a_listener() {
+            assert!(rt; call(&mut kernel, each) == Answer::Refused(errno));
+        }
+        assert!(rt; call(&mut kernel, Call::Close { fd: Fd(3) }) == Answer::Done);
+        assert!(rt; call(&mut kernel, listen(4, 5)) == Answer::Done);
+        assert!(rt; call(&mut kernel, own_name(4)) == Answer::Named(Some(GIVEN)));
+        assert!(rt; is_run(rt.alloc(), &kernel, 17));
+        Ok(())
+    }
+}
+
+#[test]
+fn a_socket_listens_and_nothing_comes(rt: HostRuntime) -> Result<(), Fail> {
+    on_both_kernels(&rt, &Listens)?;
+    Ok(())
+}
+
+/// One TCP socket is bound to the port 80, and another connects to that port once it listens: nobody gets through, and
+/// the other has no name by that. When the listener is closed, the other finds nobody.
+struct Heard;
+
+impl Script for Heard {
+    fn run<K: Kernel + Drop, R: Abort + AllocGlobal + Wait>(
+        &self,
+        rt: &R,
+        mut kernel: K,
+    ) -> Result<(), AllocError> {
+        for number in [3, 4] {
+            let socket = Call::Socket {
+                family: Family::Tcp,
+                cloexec: false,
+            };
+            assert!(rt; call(&mut kernel, socket) == Answer::Num(number));
+        }
+        assert!(rt; call(&mut kernel, bind(3)) == Answer::Done);
+        assert!(rt; call(&mut kernel, listen(3, 1)) == Answer::Done);
+        assert!(rt; call(&mut kernel, connect(4)) == Answer::Refused(Errno::Einval));
+        assert!(rt; call(&mut kernel, own_name(4)) == Answer::Named(None));
+        assert!(rt; call(&mut kernel, accept(3)) == Answer::Refused(Errno::Eagain));
+        assert!(rt; call(&mut kernel, Call::Close { fd: Fd(3) }) == Answer::Done);
+        assert!(rt; call(&mut kernel, connect(4)) == Answer::Connecting);
+        assert!(rt; call(&mut kernel, Call::TakeError { fd: Fd(4) }) == Answer::Num(111));
+        assert!(rt; call(&mut kernel, listen(4, 1)) == Answer::Refused(Errno::Einval));
+        assert!(rt; is_run(rt.alloc(), &kernel, 11));
+        Ok(())
+    }
+}
+
+#[test]
+fn nobody_gets_through_to_a_listener(rt: HostRuntime) -> Result<(), Fail> {
+    on_both_kernels(&rt, &Heard)?;
     Ok(())
 }
