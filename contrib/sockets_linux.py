@@ -149,6 +149,20 @@ class Linux:
         for it in self.used:
             os.close(BASE + it)
 
+    # What state a socket without a connection is in
+
+    def has_failed(self, fd):
+        """Whether its connect has failed, and no further one has told so."""
+        poll = select.poll()
+        poll.register(self.real(fd), select.POLLRDHUP)
+        return any(bits & select.POLLRDHUP for _, bits in poll.poll(0))
+
+    def listens(self, fd):
+        return self.is_apart(fd) and self.option(fd, socket.SO_ACCEPTCONN) == 1
+
+    def is_heard(self, space, real):
+        return any(self.listens(it) and self.own(it) == [space, real] for it in self.used)
+
     # Names: what number a socket has here is known once a line of the script has asked for its name
 
     def fresh(self):
@@ -201,6 +215,10 @@ class Linux:
 
     def connect(self, fd, space, name):
         is_tcp, own = self.is_tcp(fd), self.own(fd)
+        if self.used.get(fd) == space and self.is_heard(space, self.names.get((space, name))):
+            if not self.listens(fd) and not self.has_failed(fd):
+                # Linux connects it.
+                raise OSError(errno.EINVAL, "connect")
         if is_tcp and space in HOSTS and not own:
             # Linux takes the name that it gives by itself away, once the connect has failed.
             self.with_address("bind", fd, space, self.fresh())
@@ -210,6 +228,14 @@ class Linux:
             real = self.fresh()
         self.with_address("connect", fd, space, real)
         return {"done": True}
+
+    def listen(self, fd, backlog):
+        self.called("listen", self.real(fd), backlog)
+        return {"done": True}
+
+    def accept(self, fd):
+        taken = self.called("accept4", self.real(fd), None, None, socket.SOCK_NONBLOCK)
+        return {"num": self.placed(taken, self.used.get(fd))}
 
     def pipe(self):
         return {"two": [self.placed(it) for it in os.pipe2(os.O_NONBLOCK)]}
@@ -246,11 +272,14 @@ class Linux:
         self.called("shutdown", self.real(fd), HOWS[how])
         return {"done": True}
 
-    def sockerr(self, fd):
+    def option(self, fd, option):
         value, size = ctypes.c_int(), ctypes.c_uint32(4)
         place = ctypes.byref(value), ctypes.byref(size)
-        self.called("getsockopt", self.real(fd), socket.SOL_SOCKET, socket.SO_ERROR, *place)
-        return {"num": value.value}
+        self.called("getsockopt", self.real(fd), socket.SOL_SOCKET, option, *place)
+        return value.value
+
+    def sockerr(self, fd):
+        return {"num": self.option(fd, socket.SO_ERROR)}
 
     def name(self, function, fd):
         room, size = ctypes.create_string_buffer(NAME_BYTES), ctypes.c_uint32(NAME_BYTES)

@@ -1,10 +1,12 @@
-"""What docs/calls.md says of sockets without a connection, told once more: an instance, and such sockets beside it."""
+"""What docs/calls.md says of sockets without a connection, told once more: an instance, and such sockets beside it, some
+of which listen."""
 
 IN, OUT, ERR, HUP, RDHUP, ONESHOT, ET = 1, 4, 8, 16, 8192, 1 << 30, 1 << 31
 ALL = IN | OUT | ERR | HUP | RDHUP
 NAMES = {
     2: "ENOENT",
     9: "EBADF",
+    11: "EAGAIN",
     17: "EEXIST",
     22: "EINVAL",
     32: "EPIPE",
@@ -13,11 +15,12 @@ NAMES = {
     98: "EADDRINUSE",
     99: "EADDRNOTAVAIL",
     103: "ECONNABORTED",
+    106: "EISCONN",
     107: "ENOTCONN",
     111: "ECONNREFUSED",
 }
-ENOENT, EBADF, EEXIST, EINVAL, EPIPE, ENOTSOCK, EAFNOSUPPORT, EADDRINUSE, *_ = NAMES
-*_, EADDRNOTAVAIL, ECONNABORTED, ENOTCONN, ECONNREFUSED = NAMES
+ENOENT, EBADF, EAGAIN, EEXIST, EINVAL, EPIPE, ENOTSOCK, EAFNOSUPPORT, *_ = NAMES
+*_, EADDRINUSE, EADDRNOTAVAIL, ECONNABORTED, EISCONN, ENOTCONN, ECONNREFUSED = NAMES
 #: The least number that a script's calls give out, and the numbers that a socket can be given as its name.
 LEAST, GIVEN = 3, range(32768, 61000)
 
@@ -35,9 +38,11 @@ class Socket:
 
     def __init__(self, family):
         self.is_tcp = family == "tcp"
-        self.name, self.has_failed, self.error = None, False, 0
+        self.name, self.has_failed, self.error, self.listens = None, False, 0, False
 
     def present(self):
+        if self.listens:
+            return 0
         return OUT | HUP | ((IN | RDHUP) if self.has_failed else 0) | (ERR if self.error else 0)
 
     def take(self, otherwise):
@@ -108,6 +113,9 @@ class Model:
     def is_taken(self, name):
         return any(isinstance(it, Socket) and it.name == name for it in self.open.values())
 
+    def is_heard(self, name):
+        return any(isinstance(it, Socket) and it.listens and it.name == name for it in self.open.values())
+
     def lowest(self, space, otherwise):
         """The lowest name of a space that can be given. If none is free, the call is refused with the other number."""
         for number in GIVEN:
@@ -176,20 +184,34 @@ class Model:
         return {"done": True}
 
     def connect(self, fd, space, name):
-        at = self.socket_at(fd)
+        at, is_heard = self.socket_at(fd), self.is_heard([space, name])
         if not at.is_tcp:
-            raise Refused(ECONNREFUSED if space == "local" else EINVAL)
+            raise Refused(EINVAL if space != "local" or is_heard else ECONNREFUSED)
+        if at.listens:
+            raise Refused(EISCONN)
         if at.has_failed:
             at.has_failed = False
             return at.take({"failed": [ECONNABORTED, NAMES[ECONNABORTED]]})
         if space == "local":
             raise Refused(EAFNOSUPPORT)
-        at.name = at.name or self.lowest(space, EADDRNOTAVAIL)
-        at.has_failed, at.error = True, ECONNREFUSED
+        own = at.name or self.lowest(space, EADDRNOTAVAIL)
+        if is_heard:
+            raise Refused(EINVAL)
+        at.name, at.has_failed, at.error = own, True, ECONNREFUSED
         for (_, target), watch in self.watches.items():
             if target is at:
                 watch.arrived = ALL
         return {"connecting": True}
+
+    def listen(self, fd, backlog):
+        at = self.socket_at(fd)
+        if at.has_failed or not (at.is_tcp or at.name):
+            raise Refused(EINVAL)
+        at.name, at.listens = at.name or self.lowest("v4", EADDRINUSE), True
+        return {"done": True}
+
+    def accept(self, fd):
+        raise Refused(EAGAIN if self.socket_at(fd).listens else EINVAL)
 
     def ctl(self, ep, act, fd, mask, data):
         instance, target = self.found(ep), self.found(fd)

@@ -21,10 +21,10 @@ passed, N failed` over the scripts. The status is 0 if none failed, 1 if one did
 can't be run or written.
 
 A script has socket pairs, or TCP and Unix sockets without a connection, or both, perhaps a pipe beside them, and an
-instance. Its lines write, read, look at bytes, shut either direction or both, ask for errors and names, bind and
-connect, copy and close descriptors, and register and wait. Every call has to be answered as Linux answers it, refusals
-too. In which order a wait reports is free, so reports are compared as a set. Which number a bind of number 0 or a
-connect gives is free, too. But one number here has to be one number there, for as long as a socket has that name.
+instance. Its lines write, read, look at bytes, shut either direction or both, ask for errors and names, bind, listen,
+accept and connect, copy and close descriptors, and register and wait. Every call has to be answered as Linux answers it, refusals
+too. In which order a wait reports is free, so reports are compared as a set. Which number a bind of number 0, a listen
+or a connect gives is free, too. But one number here has to be one number there, for as long as a socket has that name.
 
 The names there are ports of the loopback and abstract Unix names. If this process may have a network of its own, as
 root may, the calls are made in it. Else they are made on the loopback of the machine, at ports that are free when the
@@ -44,14 +44,17 @@ So is what Linux does otherwise with sockets that have no connection, or with na
 
 - shutdown(2) of a socket without a connection has an effect: so it isn't made there, and ENOTCONN is expected
 - bind(2) of a pair's end is taken: so it isn't made there, and EINVAL is expected
+- a connect to a name at which a socket listens gets through: so it isn't made there, and EINVAL is expected
+- listen(2) names a socket without a name in its own family: so each one of v6 is bound before it listens
+- a TCP socket whose connect has failed never listens: so none listens that was asked to connect more than once
 - a connect that tells an error wakes: so in the next wait Linux may report one more edge-triggered registration
 - a name that a bind of number 0 or a connect gave is lost once the connect has failed: so there each socket is bound to
   a number of this program's choice
 
-The scripts of --model have sockets without a connection and an instance. They have writes and peeks of no bytes, too,
-names in both spaces of TCP, and one-shot registrations. The rules are those of docs/calls.md, told once more in Python,
-and every answer is foretold, with the numbers that are given and with what an edge-triggered registration reports. So a
-fault of a kernel stays unseen only if it was made here, too.
+The scripts of --model have sockets without a connection, some of which listen, and an instance. They have writes and
+peeks of no bytes, too, names in both spaces of TCP, and one-shot registrations. The rules are those of docs/calls.md,
+told once more in Python, and every answer is foretold, with the numbers that are given and with what an edge-triggered
+registration reports. So a fault of a kernel stays unseen only if it was made here, too.
 """
 
 import json
@@ -102,8 +105,8 @@ class Script:
         self.makes = chance.choice(MADE if is_model else [["pair"], ["pair", "tcp", "tcp", "unix"], *MADE])
         #: What each open number names: a socket or a pipe's end, as a word; an instance.
         self.open = {}
-        #: The numbers of which a bind was asked.
-        self.bound = set()
+        #: The numbers of which a bind was asked, and how often a connect was asked of what each number names.
+        self.bound, self.connects = set(), {}
 
     def put(self, op, **keys):
         self.lines.append({"op": op, **keys})
@@ -117,7 +120,8 @@ class Script:
     def opened(self, kind, op, ends, **keys):
         self.put(op, **keys)
         for _ in range(ends):
-            self.open[self.free()] = kind
+            fd = self.free()
+            self.open[fd], self.connects[fd] = kind, Counter()
 
     def sockets(self):
         return [fd for fd, it in self.open.items() if it in SOCKETS]
@@ -141,10 +145,26 @@ class Script:
             fd = self.chance.choice(unbound if unbound and op == "bind" else able)
         if op == "bind":
             self.bound.add(fd)
+        elif fd in self.open:
+            self.connects[fd]["asked"] += 1
         spaces = SPACES.get(self.open.get(fd), ["local", "v4"])
         if self.likely(0.08):
             spaces = ["v4", "v6"] if spaces == ["local"] else ["local"]
         self.put(op, fd=fd, space=self.chance.choice(spaces), name=self.chance.choice(self.numbers))
+        self.put("sockname", fd=fd)
+
+    def put_listen(self, fd):
+        """Mostly for a socket of which a bind was asked. Then a look at its name, which it may have been given."""
+        able = [it for it in self.bound if it in self.open]
+        if able and self.likely(0.6):
+            fd = self.chance.choice(able)
+        kind = self.open.get(fd)
+        if kind in ("v4", "v6") and self.connects[fd]["asked"] > 1:
+            return
+        if kind == "v6":
+            # By itself it would be named in v4, and by Linux in v6.
+            self.put("bind", fd=fd, space="v6", name=0)
+        self.put("listen", fd=fd, backlog=self.chance.choice([-1, 0, 1, 5, 128, 100000]))
         self.put("sockname", fd=fd)
 
     def length(self, *lengths):
@@ -196,10 +216,19 @@ def connect(it, fd):
     it.put_named("connect", fd)
 
 
+def listen(it, fd):
+    it.put_listen(fd)
+
+
+def accept(it, fd):
+    it.put("accept", fd=fd)
+
+
 def copy(it, fd):
     it.put("dup", fd=fd)
     if fd in it.open:
-        it.open[it.free()] = it.open[fd]
+        other = it.free()
+        it.open[other], it.connects[other] = it.open[fd], it.connects[fd]
 
 
 def close(it, fd):
@@ -238,7 +267,9 @@ STEPS = {
     shut: 14,
     ask: 10,
     bind: 9,
-    connect: 10,
+    connect: 12,
+    listen: 6,
+    accept: 4,
     copy: 6,
     close: 7,
     register: 10,
