@@ -322,6 +322,15 @@ int nippersage_bind(struct nippersage_task task, int fd, struct nippersage_name 
     return ask_with_name(task, EP_BIND, fd, name);
 }
 
+int nippersage_listen(struct nippersage_task task, int fd, int backlog) {
+    return (int)ASK(task, .event = EP_LISTEN, .fd = fd, .number = backlog);
+}
+
+int nippersage_accept4(struct nippersage_task task, int fd, int flags) {
+    if (flags & ~(SOCK_CLOEXEC | SOCK_NONBLOCK)) return -EINVAL;
+    return (int)ASK(task, .event = EP_ACCEPT, .fd = fd, .flags = cloexec(flags & SOCK_CLOEXEC));
+}
+
 int nippersage_connect(struct nippersage_task task, int fd, struct nippersage_name name) {
     return ask_with_name(task, EP_CONNECT, fd, name);
 }

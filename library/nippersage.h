@@ -253,17 +253,32 @@ int nippersage_getpeername(struct nippersage_task task, int fd, struct nippersag
  * no event. */
 int nippersage_bind(struct nippersage_task task, int fd, struct nippersage_name name);
 
-/* connect(2): 0 if it is done, -EINPROGRESS if it connects. Nobody listens yet, so no connect gets through. -ENOTSOCK.
- * What is no name is -EINVAL, as for nippersage_bind.
+/* listen(2): from now on a socket listens at its name, and shows no bit. A TCP socket without a name gets the lowest
+ * number of V4 that is free, as by a bind of number 0. `backlog` + 1 connections may wait there. A backlog above 4,096
+ * or below 0 is 4,096. If the socket listens already, only that changes. -EBADF, -ENOTSOCK. -EINVAL for an end of a
+ * socket pair, for a Unix socket without a name, and for a TCP socket whose connect failed, until the next connect has
+ * told so. -EADDRINUSE if a TCP socket has no name and none is free. An error leaves the socket as it was. */
+int nippersage_listen(struct nippersage_task task, int fd, int backlog);
+
+/* accept4(2): the descriptor of the connection that waits longest at a listener. No connect gets through yet, so none
+ * waits, and it is -EAGAIN. Flags: SOCK_CLOEXEC, SOCK_NONBLOCK; any other is -EINVAL before the kernel is asked, and no
+ * event. Before -EAGAIN come, in this order: -EBADF, -EMFILE, which is told of any file, -ENOTSOCK, -ENFILE, -EINVAL if
+ * the socket doesn't listen. An error leaves all as it was. */
+int nippersage_accept4(struct nippersage_task task, int fd, int flags);
+
+/* connect(2): 0 if it is done, -EINPROGRESS if it connects. No connect gets through yet: if a socket listens at the
+ * name, it is -EINVAL, where Linux connects. -ENOTSOCK. What is no name is -EINVAL, as for nippersage_bind.
  *
- * That of a Unix socket is -ECONNREFUSED, which changes nothing, or -EINVAL for a name in V4 or V6.
+ * That of a Unix socket changes nothing. It is -EINVAL for a name in V4 or V6, -ECONNREFUSED if nobody listens at the
+ * name, and else -EINVAL, or -EISCONN for an end of a socket pair.
  *
  * That of a TCP socket is -EINPROGRESS, and it has failed when the call returns. Then the socket shows EPOLLIN,
  * EPOLLOUT, EPOLLERR, EPOLLHUP and EPOLLRDHUP, and ECONNREFUSED waits there. It is taken by nippersage_take_error, or
  * by a read, peek or write of a byte or more. The next connect of any name tells that this one failed: it is
  * -ECONNREFUSED, or -ECONNABORTED if the error was taken. The one after that connects anew. Else it is -EAFNOSUPPORT
- * for a name in LOCAL, and -EADDRNOTAVAIL if the socket has no name and none is free. A connect gives it one, as a bind
- * of number 0 does. */
+ * for a name in LOCAL, -EADDRNOTAVAIL if the socket has no name and none is free, and -EINVAL if a socket listens at
+ * the name. These three change nothing. One that connects gives it a name, as a bind of number 0 does. That of a
+ * listener of TCP is -EISCONN, whatever the name. */
 int nippersage_connect(struct nippersage_task task, int fd, struct nippersage_name name);
 
 /* dup(2), dup2(2), dup3(2). O_CLOEXEC in dup3 is -EOPNOTSUPP, which the kernel hasn't. */

@@ -145,7 +145,7 @@ static void follow(struct tables *tables, const struct step *step) {
         open_file(tables, step, step->first);
         open_file(tables, step, step->second);
         break;
-    case EP_EVENTFD: case EP_TIMERFD: case EP_PLAIN: case EP_CREATE: case EP_SOCKET:
+    case EP_EVENTFD: case EP_TIMERFD: case EP_PLAIN: case EP_CREATE: case EP_SOCKET: case EP_ACCEPT:
         open_file(tables, step, (int)step->result);
         break;
     case EP_CTL: change_watch(tables, step); break;

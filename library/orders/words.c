@@ -175,6 +175,8 @@ static void text_words(struct text *text, const struct step *step) {
     case EP_SHUTDOWN: text_shutdown(text, request); break;
     case EP_SOCKET: text_add(text, "socket(%s", request->number == EP_TCP ? "tcp" : "unix"); break;
     case EP_BIND: case EP_CONNECT: text_naming(text, request); break;
+    case EP_LISTEN: text_add(text, "listen(%d, %" PRId32, request->fd, request->number); break;
+    case EP_ACCEPT: text_add(text, "accept4(%d", request->fd); break;
     case EP_DUP: case EP_CLOSE: case EP_GETTIME: case EP_SOCKERR:
         text_add(text, "%s(%d", names[request->event], request->fd);
         break;
@@ -210,7 +212,7 @@ enum answer answer_of(const struct step *step) {
     case EP_READ: case EP_PEEK: return BYTES;
     case EP_SOCKNAME: return A_NAME;
     case EP_SETTIME: case EP_GETTIME: return TWO_TIMES;
-    case EP_EVENTFD: case EP_TIMERFD: case EP_PLAIN: case EP_CREATE: case EP_SOCKET: return A_NUMBER;
+    case EP_EVENTFD: case EP_TIMERFD: case EP_PLAIN: case EP_CREATE: case EP_SOCKET: case EP_ACCEPT: return A_NUMBER;
     case EP_WRITE: case EP_DUP: case EP_DUP2: case EP_FORK: case EP_SOCKERR: return A_NUMBER;
     default: return NOTHING;
     }

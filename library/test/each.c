@@ -283,6 +283,9 @@ static void no_free_name(void) {
     IS(nippersage_socket(task, AF_INET, SOCK_STREAM, 0), 28235);
     IS(nippersage_connect(task, 28235, port(80)), -EADDRNOTAVAIL);
     IS(nippersage_bind(task, 28235, port(0)), -EADDRINUSE);
+    IS(nippersage_listen(task, 28235, 5), -EADDRINUSE);
+    IS(nippersage_listen(task, 3, 5), 0);
+    IS(nippersage_connect(task, 28235, port(32768)), -EADDRNOTAVAIL);
     IS(nippersage_connect(task, 28235, port_of_v6(80)), -EINPROGRESS);
     nippersage_free(task.kernel);
 }
@@ -319,7 +322,7 @@ static void failed_connects(void) {
     IS(nippersage_close(one, 3), 0);
 }
 
-/* Nobody listens, whatever the name. */
+/* Nobody listens at any name. */
 static void connects_of_unix(void) {
     int ends[2];
     IS(nippersage_socket(one, AF_UNIX, SOCK_STREAM, 0), 3);
@@ -335,6 +338,213 @@ static void connects_of_unix(void) {
     IS(nippersage_connect(one, 0, local(7)), -ENOTSOCK);
     IS(nippersage_connect(one, 77, local(7)), -EBADF);
     for (int fd = 3; fd <= 5; fd++) IS(nippersage_close(one, fd), 0);
+}
+
+/* A file shows no bit. */
+static void shows_nothing(int fd) {
+    struct epoll_event event = {.events = EPOLLIN | EPOLLOUT | EPOLLPRI | EPOLLRDHUP}, found;
+    int ep = nippersage_epoll_create1(one, 0);
+    IS(nippersage_epoll_ctl(one, ep, EPOLL_CTL_ADD, fd, &event), 0);
+    IS(nippersage_epoll_wait(one, ep, &found, 1, 0), 0);
+    IS(nippersage_close(one, ep), 0);
+}
+
+/* A new listener of TCP or Unix. */
+static int listener(int domain, struct nippersage_name name) {
+    int fd = nippersage_socket(one, domain, SOCK_STREAM, 0);
+    IS(nippersage_bind(one, fd, name), 0);
+    IS(nippersage_listen(one, fd, 5), 0);
+    return fd;
+}
+
+/* What listens, and at which name. */
+static void listens(void) {
+    static const int backlogs[] = {0, 1, 4096, 4097, INT_MAX, -1, INT_MIN};
+    struct nippersage_task nobody = {NULL, 1, 1}, gone = {kernel, 1, 77};
+    int ends[2];
+    for (int fd = 3; fd <= 5; fd++) IS(nippersage_socket(one, AF_INET, SOCK_STREAM, 0), fd);
+    IS(nippersage_socket(one, AF_UNIX, SOCK_STREAM, 0), 6);
+    IS(nippersage_socketpair(one, AF_UNIX, SOCK_STREAM, 0, ends), 0);
+    IS(nippersage_bind(one, 3, port(80)), 0);
+    IS(nippersage_listen(one, 3, 5), 0);
+    is_named(3, port(80));
+    for (size_t i = 0; i < sizeof backlogs / sizeof *backlogs; i++) IS(nippersage_listen(one, 3, backlogs[i]), 0);
+    is_named(3, port(80));
+    IS(nippersage_listen(one, 4, 0), 0);
+    is_named(4, port(32768));
+    IS(nippersage_bind(one, 5, port_of_v6(0)), 0);
+    IS(nippersage_listen(one, 5, -1), 0);
+    is_named(5, port_of_v6(32768));
+    IS(nippersage_listen(one, 6, 5), -EINVAL);
+    IS(shown_at(6), EPOLLOUT | EPOLLHUP);
+    IS(nippersage_bind(one, 6, local(0)), 0);
+    IS(nippersage_listen(one, 6, 5), 0);
+    is_named(6, local(32768));
+    for (int fd = 3; fd <= 6; fd++) shows_nothing(fd);
+    IS(nippersage_listen(one, ends[0], 5), -EINVAL);
+    IS(nippersage_listen(one, 0, 5), -ENOTSOCK);
+    IS(nippersage_listen(one, 77, 5), -EBADF);
+    IS(nippersage_listen(gone, 3, 5), -ESRCH);
+    IS(nippersage_listen(nobody, 3, 5), -EINVAL);
+    for (int fd = 3; fd <= 8; fd++) IS(nippersage_close(one, fd), 0);
+}
+
+/* A socket whose connect failed listens once a connect has told so, and what waited there still does. */
+static void listens_once_told(void) {
+    IS(nippersage_socket(one, AF_INET, SOCK_STREAM, 0), 3);
+    IS(nippersage_connect(one, 3, port_of_v6(80)), -EINPROGRESS);
+    IS(nippersage_listen(one, 3, 5), -EINVAL);
+    IS(nippersage_take_error(one, 3), ECONNREFUSED);
+    IS(nippersage_listen(one, 3, 5), -EINVAL);
+    IS(nippersage_connect(one, 3, port(80)), -ECONNABORTED);
+    IS(nippersage_listen(one, 3, 5), 0);
+    is_named(3, port_of_v6(32768));
+    shows_nothing(3);
+    IS(nippersage_close(one, 3), 0);
+}
+
+/* What a listener answers: it has a name, and no connection. */
+static void of_listeners(void) {
+    struct nippersage_name name = {7, 7};
+    struct itimerspec second = {.it_value = {1, 0}};
+    char bytes[8];
+    IS(listener(AF_INET, port(80)), 3);
+    IS(listener(AF_UNIX, local(7)), 4);
+    IS(nippersage_read(one, 3, bytes, 1), -ENOTCONN);
+    IS(nippersage_peek(one, 3, bytes, 1), -ENOTCONN);
+    IS(nippersage_write(one, 3, "a", 1), -EPIPE);
+    IS(nippersage_read(one, 4, bytes, 1), -EINVAL);
+    IS(nippersage_peek(one, 4, bytes, 1), -EINVAL);
+    IS(nippersage_write(one, 4, "a", 1), -ENOTCONN);
+    for (int fd = 3; fd <= 4; fd++) {
+        IS(nippersage_read(one, fd, bytes, 0), 0);
+        IS(nippersage_peek(one, fd, bytes, 0), 0);
+        IS(nippersage_write(one, fd, bytes, 0), 0);
+        for (int how = SHUT_RD; how <= SHUT_RDWR; how++) IS(nippersage_shutdown(one, fd, how), -ENOTCONN);
+        IS(nippersage_take_error(one, fd), 0);
+        IS(nippersage_getpeername(one, fd, &name), -ENOTCONN);
+        IS(name.space == 7 && name.number == 7, 1);
+        IS(nippersage_timerfd_settime(one, fd, 0, &second, NULL), -EINVAL);
+        IS(nippersage_timerfd_gettime(one, fd, &second), -EINVAL);
+        shows_nothing(fd);
+    }
+    is_named(3, port(80));
+    is_named(4, local(7));
+    IS(nippersage_bind(one, 3, local(9)), -EAFNOSUPPORT);
+    IS(nippersage_bind(one, 3, port(9)), -EINVAL);
+    IS(nippersage_bind(one, 4, port(9)), -EINVAL);
+    IS(nippersage_bind(one, 4, local(9)), -EINVAL);
+    IS(nippersage_connect(one, 3, local(9)), -EISCONN);
+    IS(nippersage_connect(one, 3, port(9)), -EISCONN);
+    IS(nippersage_connect(one, 3, port(80)), -EISCONN);
+    IS(nippersage_connect(one, 4, port(80)), -EINVAL);
+    IS(nippersage_connect(one, 4, local(9)), -ECONNREFUSED);
+    IS(nippersage_connect(one, 4, local(7)), -EINVAL);
+    IS(nippersage_close(one, 3), 0);
+    IS(nippersage_close(one, 4), 0);
+}
+
+/* The name of a listener is taken until its last descriptor is closed. */
+static void names_of_listeners(void) {
+    IS(listener(AF_INET, port(80)), 3);
+    IS(nippersage_socket(one, AF_INET, SOCK_STREAM, 0), 4);
+    IS(nippersage_dup(one, 3), 5);
+    IS(nippersage_bind(one, 4, port(80)), -EADDRINUSE);
+    IS(nippersage_close(one, 3), 0);
+    is_named(5, port(80));
+    IS(nippersage_bind(one, 4, port(80)), -EADDRINUSE);
+    IS(nippersage_connect(one, 4, port(80)), -EINVAL);
+    IS(nippersage_close(one, 5), 0);
+    IS(nippersage_bind(one, 4, port(80)), 0);
+    IS(nippersage_close(one, 4), 0);
+}
+
+/* Nobody gets through to a listener. */
+static void connects_to_listeners(void) {
+    struct nippersage_name name = {7, 7};
+    int ends[2];
+    IS(listener(AF_INET, port(80)), 3);
+    IS(listener(AF_UNIX, local(7)), 4);
+    IS(nippersage_socket(one, AF_INET, SOCK_STREAM, 0), 5);
+    IS(nippersage_socket(one, AF_UNIX, SOCK_STREAM, 0), 6);
+    IS(nippersage_socketpair(one, AF_UNIX, SOCK_STREAM, 0, ends), 0);
+    IS(nippersage_connect(one, 5, local(7)), -EAFNOSUPPORT);
+    IS(nippersage_connect(one, 5, port(80)), -EINVAL);
+    IS(nippersage_getsockname(one, 5, &name), 0);
+    IS(shown_at(5), EPOLLOUT | EPOLLHUP);
+    IS(nippersage_connect(one, 5, port(7)), -EINPROGRESS);
+    IS(nippersage_connect(one, 5, port(80)), -ECONNREFUSED); /* it tells of the one before */
+    IS(nippersage_connect(one, 5, port(80)), -EINVAL);
+    IS(nippersage_connect(one, 5, port_of_v6(80)), -EINPROGRESS);
+    IS(nippersage_connect(one, 6, port(80)), -EINVAL);
+    IS(nippersage_connect(one, 6, local(80)), -ECONNREFUSED);
+    IS(nippersage_connect(one, 6, local(7)), -EINVAL);
+    IS(nippersage_getsockname(one, 6, &name), 0);
+    IS(nippersage_take_error(one, 6), 0);
+    IS(shown_at(6), EPOLLOUT | EPOLLHUP);
+    IS(nippersage_connect(one, ends[0], port(80)), -EINVAL);
+    IS(nippersage_connect(one, ends[0], local(80)), -ECONNREFUSED);
+    IS(nippersage_connect(one, ends[0], local(7)), -EISCONN);
+    shows_nothing(3);
+    shows_nothing(4);
+    for (int fd = 3; fd <= 8; fd++) IS(nippersage_close(one, fd), 0);
+}
+
+/* Nothing waits at a listener. A flag that is none makes no event. */
+static void accepts(void) {
+    static const int none[] = {1, O_APPEND, SOCK_CLOEXEC | 1, -1};
+    struct nippersage_task nobody = {NULL, 1, 1}, gone = {kernel, 1, 77};
+    size_t before = 0, after = 0;
+    int ends[2];
+    IS(listener(AF_INET, port(80)), 3);
+    IS(listener(AF_UNIX, local(7)), 4);
+    IS(nippersage_socket(one, AF_INET, SOCK_STREAM, 0), 5);
+    IS(nippersage_socketpair(one, AF_UNIX, SOCK_STREAM, 0, ends), 0);
+    for (int fd = 3; fd <= 4; fd++) {
+        IS(nippersage_accept4(one, fd, 0), -EAGAIN);
+        IS(nippersage_accept4(one, fd, SOCK_CLOEXEC | SOCK_NONBLOCK), -EAGAIN);
+    }
+    IS(nippersage_accept4(one, 5, 0), -EINVAL);
+    IS(nippersage_accept4(one, ends[1], 0), -EINVAL);
+    IS(nippersage_accept4(one, 0, 0), -ENOTSOCK);
+    IS(nippersage_accept4(one, 77, 0), -EBADF);
+    IS(nippersage_accept4(gone, 3, 0), -ESRCH);
+    IS(nippersage_accept4(nobody, 3, 0), -EINVAL);
+    IS(nippersage_records(kernel, &before), 0);
+    for (size_t i = 0; i < sizeof none / sizeof *none; i++) IS(nippersage_accept4(one, 3, none[i]), -EINVAL);
+    IS(nippersage_records(kernel, &after), 0);
+    IS(after, before);
+    for (int fd = 3; fd <= 7; fd++) IS(nippersage_close(one, fd), 0);
+}
+
+/* A table that is full is told of first, and too many files behind what is no socket. */
+static void accepts_no_more(void) {
+    struct nippersage_limits few = {4, 4096, 64, 4096, 65536, 65536}, no_files = {1024, 2, 64, 4096, 65536, 65536};
+    struct nippersage_task other = {NULL, 1, 1};
+    IS(nippersage_open(&few, &other.kernel), 0);
+    IS(nippersage_socket(other, AF_INET, SOCK_STREAM, 0), 3);
+    IS(nippersage_listen(other, 3, 5), 0);
+    IS(nippersage_accept4(other, 3, 0), -EMFILE);
+    IS(nippersage_accept4(other, 0, 0), -EMFILE);
+    IS(nippersage_accept4(other, 4, 0), -EBADF);
+    nippersage_free(other.kernel);
+    IS(nippersage_open(&no_files, &other.kernel), 0);
+    IS(nippersage_socket(other, AF_INET, SOCK_STREAM, 0), 3);
+    IS(nippersage_accept4(other, 3, 0), -ENFILE);
+    IS(nippersage_listen(other, 3, 5), 0);
+    IS(nippersage_accept4(other, 3, 0), -ENFILE);
+    IS(nippersage_accept4(other, 0, 0), -ENOTSOCK);
+    nippersage_free(other.kernel);
+}
+
+static void listeners(void) {
+    listens();
+    listens_once_told();
+    of_listeners();
+    names_of_listeners();
+    connects_to_listeners();
+    accepts();
+    accepts_no_more();
 }
 
 static void sockets_without_a_connection(void) {
@@ -997,6 +1207,7 @@ int main(int argc, char **argv) {
     vectors();
     sockets();
     sockets_without_a_connection();
+    listeners();
     counters();
     timers();
     bounds();

@@ -58,6 +58,9 @@ static void calls(struct nippersage_kernel *kernel) {
     AGAIN(nippersage_bind(one, 3, (struct nippersage_name){NIPPERSAGE_V4, 0}), 0);
     AGAIN(nippersage_connect(one, 3, (struct nippersage_name){NIPPERSAGE_V4, 80}), -EINPROGRESS);
     AGAIN(nippersage_take_error(one, 3), ECONNREFUSED);
+    AGAIN(nippersage_socket(one, AF_INET, SOCK_STREAM, 0), 8);
+    AGAIN(nippersage_listen(one, 8, 5), 0);
+    AGAIN(nippersage_accept4(one, 8, 0), -EAGAIN);
     AGAIN(nippersage_check(kernel), 0);
     sink = open("/dev/null", O_WRONLY);
     AGAIN(nippersage_history(kernel, sink), 0);

@@ -289,10 +289,15 @@ static int makes_sockets(struct nippersage_task task, void *shared) {
     nippersage_epoll_create1(task, 0);
     nippersage_epoll_ctl(task, 7, EPOLL_CTL_ADD, 5, &event);
     nippersage_epoll_wait(task, 7, &event, 1, 0);
+    nippersage_listen(task, 5, 5);
+    nippersage_listen(task, 6, -1);
+    nippersage_accept4(task, 6, SOCK_CLOEXEC | SOCK_NONBLOCK);
+    nippersage_accept4(task, 6, 1);
+    nippersage_accept4(task, 7, 0);
     return nippersage_fail(task, "told");
 }
 
-/* The calls of sockets without a connection. What is no name makes no event, and so has no line. */
+/* The calls of sockets without a connection. What is no name or no flag makes no event, and so has no line. */
 static void words_of_new_sockets(void) {
     is_told(makes_sockets,
             " 1 t socket(tcp, CLOEXEC) 5\n"
@@ -305,7 +310,11 @@ static void words_of_new_sockets(void) {
             " 8 t take_error(5) 111\n"
             " 9 t epoll_create1() 7\n"
             " 10 t epoll_ctl(7, ADD, 5, IN, 7)\n"
-            " 11 t epoll_wait(7, 1, 0) [(IN|HUP, 7)]\n");
+            " 11 t epoll_wait(7, 1, 0) [(IN|HUP, 7)]\n"
+            " 12 t listen(5, 5) EINVAL\n"
+            " 13 t listen(6, -1)\n"
+            " 14 t accept4(6, CLOEXEC) EAGAIN\n"
+            " 15 t accept4(7) ENOTSOCK\n");
 }
 
 /* A socket is a file as any other: its registration is one of the instance at which a task sleeps. */
