@@ -267,6 +267,8 @@ extern "C" {
     pub fn nippersage_getpeername(task: Task, fd: c_int, name: *mut Name) -> c_int;
     pub fn nippersage_socket(task: Task, domain: c_int, kind: c_int, protocol: c_int) -> c_int;
     pub fn nippersage_bind(task: Task, fd: c_int, name: Name) -> c_int;
+    pub fn nippersage_listen(task: Task, fd: c_int, backlog: c_int) -> c_int;
+    pub fn nippersage_accept4(task: Task, fd: c_int, flags: c_int) -> c_int;
     pub fn nippersage_connect(task: Task, fd: c_int, name: Name) -> c_int;
 
     pub fn nippersage_dup(task: Task, fd: c_int) -> c_int;

@@ -394,16 +394,56 @@ impl Task<'_> {
         done(unsafe { ffi::nippersage_bind(self.raw(), fd.into().0, name.raw()) })
     }
 
-    /// connect(2). Nobody listens yet, so no connect gets through.
+    /// listen(2): from now on a socket listens at its name, and shows no bit. A TCP socket without
+    /// a name gets the lowest port of IPv4 that is free, as by a [`bind`](Task::bind) of number 0.
+    /// `backlog` + 1 connections may wait there. A backlog above 4,096 or below 0 is 4,096. If the
+    /// socket listens already, only that changes.
     ///
-    /// That of a Unix socket is ECONNREFUSED, which changes nothing, or EINVAL for a port.
+    /// EBADF, ENOTSOCK. EINVAL for an end of a socket pair, for a Unix socket without a name, and
+    /// for a TCP socket whose connect failed, until the next connect has told so. EADDRINUSE if a
+    /// TCP socket has no name and none is free.
+    ///
+    /// ```
+    /// use nippersage::{Errno, Family, Flags, Kernel, Name, Space};
+    ///
+    /// let kernel = Kernel::new()?;
+    /// let task = kernel.task(0);
+    /// let listener = task.socket(Family::Tcp, Flags::NONE)?;
+    /// let server = Name { space: Space::V4, number: 80 };
+    /// task.bind(listener, server)?;
+    /// task.listen(listener, 16)?;
+    /// assert_eq!(task.accept4(listener, Flags::CLOEXEC), Err(Errno::EAGAIN));
+    /// # Ok::<(), Errno>(())
+    /// ```
+    pub fn listen(self, fd: impl Into<Fd>, backlog: i32) -> Result<(), Errno> {
+        // SAFETY: numbers only.
+        done(unsafe { ffi::nippersage_listen(self.raw(), fd.into().0, backlog) })
+    }
+
+    /// accept4(2): the connection that waits longest at a listener. No connect gets through yet, so
+    /// none waits, and it is EAGAIN.
+    ///
+    /// Before EAGAIN come, in this order: EBADF, EMFILE, which is told of any file, ENOTSOCK,
+    /// ENFILE, and EINVAL if the socket doesn't listen.
+    pub fn accept4(self, fd: impl Into<Fd>, flags: Flags) -> Result<Fd, Errno> {
+        // SAFETY: numbers only.
+        descriptor(unsafe { ffi::nippersage_accept4(self.raw(), fd.into().0, flags.0) })
+    }
+
+    /// connect(2). No connect gets through yet: if a socket listens at the name, it is EINVAL,
+    /// where Linux connects.
+    ///
+    /// That of a Unix socket changes nothing. It is EINVAL for a port, ECONNREFUSED if nobody
+    /// listens at the name, and else EINVAL, or EISCONN for an end of a socket pair.
     ///
     /// That of a TCP socket is EINPROGRESS, and it has failed when the call returns. Then the
     /// socket shows IN, OUT, ERR, HUP and RDHUP, and ECONNREFUSED waits there. It is taken by
     /// [`take_error`](Task::take_error), or by a read, peek or write of a byte or more. The next
     /// connect of any name tells that this one failed: it is ECONNREFUSED, or ECONNABORTED if the
     /// error was taken. The one after that connects anew. Else it is EAFNOSUPPORT for a name in
-    /// [`Space::Local`], and EADDRNOTAVAIL if the socket has no name and none is free.
+    /// [`Space::Local`], EADDRNOTAVAIL if the socket has no name and none is free, and EINVAL if a
+    /// socket listens at the name. These three change nothing. That of a listener of TCP is
+    /// EISCONN, whatever the name.
     ///
     /// Of either EBADF, ENOTSOCK. A port above 65,535 is EINVAL, and no event.
     ///

@@ -335,7 +335,216 @@ fn no_name_is_free() {
     let last = task.socket(Family::Tcp, Flags::NONE).unwrap();
     assert_eq!(task.connect(last, port(80)), Err(Errno::EADDRNOTAVAIL));
     assert_eq!(task.bind(last, port(0)), Err(Errno::EADDRINUSE));
+    assert_eq!(task.listen(last, 5), Err(Errno::EADDRINUSE));
+    assert_eq!(task.listen(3, 5), Ok(()));
+    assert_eq!(task.connect(last, port(32_768)), Err(Errno::EADDRNOTAVAIL));
     assert_eq!(task.connect(last, port_of_v6(80)), Err(Errno::EINPROGRESS));
+}
+
+/// A file shows no bit.
+fn shows_nothing(task: Task, fd: Fd) {
+    let instance = task.own(task.epoll_create1(Flags::NONE).unwrap());
+    let asked = Events::IN | Events::OUT | Events::PRI | Events::RDHUP;
+    task.epoll_add(instance.fd(), fd, asked, 0).unwrap();
+    let mut events = [Event::default()];
+    assert_eq!(
+        task.epoll_wait(instance.fd(), &mut events, Some(Duration::ZERO)),
+        Ok(0)
+    );
+}
+
+fn listener(task: Task, family: Family, name: Name) -> Fd {
+    let fd = task.socket(family, Flags::NONE).unwrap();
+    task.bind(fd, name).unwrap();
+    task.listen(fd, 5).unwrap();
+    fd
+}
+
+#[test]
+fn what_listens() {
+    let kernel = Kernel::new().unwrap();
+    let task = kernel.task(0);
+    let tcp = listener(task, Family::Tcp, port(80));
+    for backlog in [0, 1, 4_096, 4_097, i32::MAX, -1, i32::MIN] {
+        assert_eq!(task.listen(tcp, backlog), Ok(()));
+    }
+    assert_eq!(task.getsockname(tcp), Ok(Some(port(80))));
+    let unnamed = task.socket(Family::Tcp, Flags::NONE).unwrap();
+    assert_eq!(task.listen(unnamed, 0), Ok(()));
+    assert_eq!(task.getsockname(unnamed), Ok(Some(port(32_768))));
+    let v6 = listener(task, Family::Tcp, port_of_v6(80));
+    let unix = task.socket(Family::Unix, Flags::NONE).unwrap();
+    assert_eq!(task.listen(unix, 5), Err(Errno::EINVAL));
+    assert_eq!(shown_at(task, unix), Events::OUT | Events::HUP);
+    task.bind(unix, local(7)).unwrap();
+    assert_eq!(task.listen(unix, 5), Ok(()));
+    for fd in [tcp, unnamed, v6, unix] {
+        shows_nothing(task, fd);
+    }
+    let (left, _) = task.socketpair(Flags::NONE).unwrap();
+    assert_eq!(task.listen(left, 5), Err(Errno::EINVAL));
+    assert_eq!(task.listen(0, 5), Err(Errno::ENOTSOCK));
+    assert_eq!(task.listen(77, 5), Err(Errno::EBADF));
+    let gone = task.in_process(Pid(77));
+    assert_eq!(gone.listen(tcp, 5), Err(Errno::ESRCH));
+}
+
+#[test]
+fn a_socket_whose_connect_failed_listens_once_told() {
+    let kernel = Kernel::new().unwrap();
+    let task = kernel.task(0);
+    let fd = task.socket(Family::Tcp, Flags::NONE).unwrap();
+    assert_eq!(task.connect(fd, port_of_v6(80)), Err(Errno::EINPROGRESS));
+    assert_eq!(task.listen(fd, 5), Err(Errno::EINVAL));
+    assert_eq!(task.take_error(fd), Ok(Some(Errno::ECONNREFUSED)));
+    assert_eq!(task.listen(fd, 5), Err(Errno::EINVAL));
+    assert_eq!(task.connect(fd, port(80)), Err(Errno::ECONNABORTED));
+    assert_eq!(task.listen(fd, 5), Ok(()));
+    assert_eq!(task.getsockname(fd), Ok(Some(port_of_v6(32_768))));
+}
+
+#[test]
+fn what_a_listener_answers() {
+    let kernel = Kernel::new().unwrap();
+    let task = kernel.task(0);
+    let tcp = listener(task, Family::Tcp, port(80));
+    let unix = listener(task, Family::Unix, local(7));
+    let mut bytes = [0; 8];
+    for (fd, read, write, name) in [
+        (tcp, Errno::ENOTCONN, Errno::EPIPE, port(80)),
+        (unix, Errno::EINVAL, Errno::ENOTCONN, local(7)),
+    ] {
+        assert_eq!(task.read(fd, &mut bytes), Err(read));
+        assert_eq!(task.peek(fd, &mut bytes), Err(read));
+        assert_eq!(task.write(fd, b"a"), Err(write));
+        assert_eq!(task.read(fd, &mut []), Ok(0));
+        assert_eq!(task.peek(fd, &mut []), Ok(0));
+        assert_eq!(task.write(fd, b""), Ok(0));
+        for how in [Shutdown::Read, Shutdown::Write, Shutdown::Both] {
+            assert_eq!(task.shutdown(fd, how), Err(Errno::ENOTCONN));
+        }
+        assert_eq!(task.take_error(fd), Ok(None));
+        assert_eq!(task.getsockname(fd), Ok(Some(name)));
+        assert_eq!(task.getpeername(fd), Err(Errno::ENOTCONN));
+        shows_nothing(task, fd);
+    }
+    assert_eq!(task.bind(tcp, local(9)), Err(Errno::EAFNOSUPPORT));
+    assert_eq!(task.bind(tcp, port(9)), Err(Errno::EINVAL));
+    assert_eq!(task.bind(unix, port(9)), Err(Errno::EINVAL));
+    assert_eq!(task.bind(unix, local(9)), Err(Errno::EINVAL));
+    for name in [local(9), port(9), port(80)] {
+        assert_eq!(task.connect(tcp, name), Err(Errno::EISCONN));
+    }
+    assert_eq!(task.connect(unix, port(80)), Err(Errno::EINVAL));
+    assert_eq!(task.connect(unix, local(9)), Err(Errno::ECONNREFUSED));
+    assert_eq!(task.connect(unix, local(7)), Err(Errno::EINVAL));
+}
+
+#[test]
+fn the_name_of_a_listener_is_taken() {
+    let kernel = Kernel::new().unwrap();
+    let task = kernel.task(0);
+    let first = listener(task, Family::Tcp, port(80));
+    let copy = task.dup(first).unwrap();
+    let other = task.socket(Family::Tcp, Flags::NONE).unwrap();
+    assert_eq!(task.bind(other, port(80)), Err(Errno::EADDRINUSE));
+    task.close(first).unwrap();
+    assert_eq!(task.bind(other, port(80)), Err(Errno::EADDRINUSE));
+    assert_eq!(task.connect(other, port(80)), Err(Errno::EINVAL));
+    task.close(copy).unwrap();
+    assert_eq!(task.bind(other, port(80)), Ok(()));
+}
+
+#[test]
+fn connects_to_listeners() {
+    let kernel = Kernel::new().unwrap();
+    let task = kernel.task(0);
+    listener(task, Family::Tcp, port(80));
+    listener(task, Family::Unix, local(7));
+    let tcp = task.socket(Family::Tcp, Flags::NONE).unwrap();
+    let unix = task.socket(Family::Unix, Flags::NONE).unwrap();
+    let (left, _) = task.socketpair(Flags::NONE).unwrap();
+    assert_eq!(task.connect(tcp, local(7)), Err(Errno::EAFNOSUPPORT));
+    assert_eq!(task.connect(tcp, port(80)), Err(Errno::EINVAL));
+    assert_eq!(task.getsockname(tcp), Ok(None));
+    assert_eq!(shown_at(task, tcp), Events::OUT | Events::HUP);
+    assert_eq!(task.connect(tcp, port_of_v6(80)), Err(Errno::EINPROGRESS));
+    assert_eq!(task.connect(tcp, port(80)), Err(Errno::ECONNREFUSED));
+    assert_eq!(task.connect(tcp, port(80)), Err(Errno::EINVAL));
+    assert_eq!(task.connect(unix, port(80)), Err(Errno::EINVAL));
+    assert_eq!(task.connect(unix, local(80)), Err(Errno::ECONNREFUSED));
+    assert_eq!(task.connect(unix, local(7)), Err(Errno::EINVAL));
+    assert_eq!(shown_at(task, unix), Events::OUT | Events::HUP);
+    assert_eq!(task.connect(left, port(80)), Err(Errno::EINVAL));
+    assert_eq!(task.connect(left, local(80)), Err(Errno::ECONNREFUSED));
+    assert_eq!(task.connect(left, local(7)), Err(Errno::EISCONN));
+}
+
+#[test]
+fn accepts() {
+    let kernel = Kernel::new().unwrap();
+    let task = kernel.task(0);
+    for fd in [
+        listener(task, Family::Tcp, port(80)),
+        listener(task, Family::Unix, local(7)),
+    ] {
+        assert_eq!(task.accept4(fd, Flags::NONE), Err(Errno::EAGAIN));
+        let flags = Flags::CLOEXEC | Flags::NONBLOCK;
+        assert_eq!(task.accept4(fd, flags), Err(Errno::EAGAIN));
+    }
+    let idle = task.socket(Family::Tcp, Flags::NONE).unwrap();
+    let (left, _) = task.socketpair(Flags::NONE).unwrap();
+    assert_eq!(task.accept4(idle, Flags::NONE), Err(Errno::EINVAL));
+    assert_eq!(task.accept4(left, Flags::NONE), Err(Errno::EINVAL));
+    assert_eq!(task.accept4(0, Flags::NONE), Err(Errno::ENOTSOCK));
+    assert_eq!(task.accept4(77, Flags::NONE), Err(Errno::EBADF));
+}
+
+/// The backlog and the flag get to the kernel, though nothing shows them yet.
+#[test]
+fn what_a_listener_is_asked() {
+    let kernel = Kernel::new().unwrap();
+    let task = kernel.task(0);
+    let fd = task.socket(Family::Tcp, Flags::NONE).unwrap();
+    task.listen(fd, -7).unwrap();
+    for flags in [Flags::CLOEXEC, Flags::NONE] {
+        assert_eq!(task.accept4(fd, flags), Err(Errno::EAGAIN));
+    }
+    let lines = String::from_utf8(lines_of(&kernel)).unwrap();
+    let calls = [
+        r#"{"backlog":-7,"fd":3,"op":"listen"}"#,
+        r#"{"cloexec":true,"fd":3,"op":"accept"}"#,
+        r#"{"cloexec":false,"fd":3,"op":"accept"}"#,
+    ];
+    for (line, call) in lines.lines().skip(1).zip(calls) {
+        assert!(line.contains(call), "{line} is no {call}");
+    }
+    assert_eq!(lines.lines().count(), 4);
+}
+
+#[test]
+fn accepts_no_more() {
+    let few = Limits {
+        descriptors: 4,
+        ..Limits::default()
+    };
+    let kernel = Kernel::with_limits(&few).unwrap();
+    let task = kernel.task(0);
+    let fd = listener(task, Family::Tcp, port(80));
+    assert_eq!(task.accept4(fd, Flags::NONE), Err(Errno::EMFILE));
+    assert_eq!(task.accept4(0, Flags::NONE), Err(Errno::EMFILE));
+    assert_eq!(task.accept4(4, Flags::NONE), Err(Errno::EBADF));
+    let no_files = Limits {
+        files: 2,
+        ..Limits::default()
+    };
+    let kernel = Kernel::with_limits(&no_files).unwrap();
+    let task = kernel.task(0);
+    let fd = task.socket(Family::Tcp, Flags::NONE).unwrap();
+    assert_eq!(task.accept4(fd, Flags::NONE), Err(Errno::ENFILE));
+    task.listen(fd, 5).unwrap();
+    assert_eq!(task.accept4(fd, Flags::NONE), Err(Errno::ENFILE));
+    assert_eq!(task.accept4(0, Flags::NONE), Err(Errno::ENOTSOCK));
 }
 
 #[test]
