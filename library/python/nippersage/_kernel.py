@@ -182,18 +182,40 @@ class Task:
         """
         self._backend.bind(self._who(by, pid), number("fd", fd), name_of(name))
 
+    def listen(self, fd: int, backlog: int, *, by: Optional[int] = None, pid: Optional[int] = None) -> None:
+        """Makes a socket listen at its name from now on. Then it shows no bit.
+
+        One of TCP without a name gets the lowest number of "v4" that is free, as by a bind of number 0. `backlog` + 1
+        connections may wait there. A backlog above 4,096 or below 0 is 4,096. If the socket listens already, only that
+        changes. EINVAL for an end of a socket pair, for a socket of Unix without a name, and for one of TCP whose
+        connect failed, until the next connect has told so. EADDRINUSE if one of TCP has no name and none is free.
+        """
+        self._backend.listen(self._who(by, pid), number("fd", fd), number("backlog", backlog))
+
+    def accept(
+        self, fd: int, cloexec: bool = False, *, by: Optional[int] = None, pid: Optional[int] = None,
+    ) -> int:
+        """The connection that waits longest at a listener, by accept4(2).
+
+        No connect gets through yet, so none waits, and it is EAGAIN, a BlockingIOError. Before that come, in this
+        order: EBADF, EMFILE, which is told of any file, ENOTSOCK, ENFILE, and EINVAL if the socket doesn't listen.
+        """
+        return self._backend.accept(self._who(by, pid), number("fd", fd), bool(cloexec))
+
     def connect(
         self, fd: int, name: Tuple[str, int], *, by: Optional[int] = None, pid: Optional[int] = None,
     ) -> None:
-        """Connects a socket to this name. Nobody listens yet, so no connect gets through.
+        """Connects a socket to this name. No connect gets through yet: if a socket listens there, it is EINVAL.
 
-        That of Unix is ECONNREFUSED, which changes nothing, or EINVAL for a name in "v4" or "v6".
+        That of Unix changes nothing. It is EINVAL for a name in "v4" or "v6", ECONNREFUSED if nobody listens at the
+        name, and else EINVAL, or EISCONN for an end of a socket pair.
 
         That of TCP is EINPROGRESS, a BlockingIOError, and it has failed when the call returns. Then the socket shows
         IN, OUT, ERR, HUP and RDHUP, and ECONNREFUSED waits there. It is taken by `take_error`, or by a read, peek or
         write of a byte or more. The next connect of any name tells that this one failed: it is ECONNREFUSED, or
         ECONNABORTED if the error was taken. The one after that connects anew. Else it is EAFNOSUPPORT for a name in
-        "local", and EADDRNOTAVAIL if the socket has no name and none is free.
+        "local", EADDRNOTAVAIL if the socket has no name and none is free, and EINVAL if a socket listens at the name.
+        These three change nothing. That of a listener of TCP is EISCONN, whatever the name.
         """
         self._backend.connect(self._who(by, pid), number("fd", fd), name_of(name))
 

@@ -121,6 +121,8 @@ _TAKEN: Dict[str, Tuple[Any, ...]] = {
     "getpeername": (Who, c_int, POINTER(_Name)),
     "socket": (Who, c_int, c_int, c_int),
     "bind": (Who, c_int, _Name),
+    "listen": (Who, c_int, c_int),
+    "accept4": (Who, c_int, c_int),
     "connect": (Who, c_int, _Name),
     "dup": (Who, c_int),
     "dup2": (Who, c_int, c_int),
@@ -338,6 +340,12 @@ class Library:
 
     def bind(self, who: Who, fd: int, name: Name) -> None:
         self._done(self._f.bind(who, fd, _name(name)))
+
+    def listen(self, who: Who, fd: int, backlog: int) -> None:
+        self._done(self._f.listen(who, fd, backlog))
+
+    def accept(self, who: Who, fd: int, cloexec: bool) -> int:
+        return self._done(self._f.accept4(who, fd, _CLOEXEC if cloexec else 0))
 
     def connect(self, who: Who, fd: int, name: Name) -> None:
         self._done(self._f.connect(who, fd, _name(name)))

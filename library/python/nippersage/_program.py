@@ -208,6 +208,12 @@ class Program:
     def bind(self, who: Who, fd: int, name: Name) -> None:
         self._call("bind", who, fd=fd, space=name.space, name=name.number)
 
+    def listen(self, who: Who, fd: int, backlog: int) -> None:
+        self._call("listen", who, fd=fd, backlog=backlog)
+
+    def accept(self, who: Who, fd: int, cloexec: bool) -> int:
+        return self._call("accept", who, fd=fd, cloexec=cloexec)["num"]
+
     def connect(self, who: Who, fd: int, name: Name) -> None:
         if "connecting" in self._call("connect", who, fd=fd, space=name.space, name=name.number):
             raise refusal(EINPROGRESS)

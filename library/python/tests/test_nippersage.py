@@ -23,8 +23,8 @@ FOLDER = os.path.dirname(os.path.dirname(os.path.abspath(__file__)))
 sys.path.insert(0, FOLDER)
 
 from nippersage import (
-    AUDITOR, ERR, ET, EXCLUSIVE, HUP, IN, LIBRARY, MOST_CALLS, ONESHOT, OUT, PROGRAM, RDHUP, Ended, Illegal, Kernel,
-    Limits, Mask, Name, Watch, __version__, audit, library_version,
+    AUDITOR, ERR, ET, EXCLUSIVE, HUP, IN, LIBRARY, MOST_CALLS, ONESHOT, OUT, PRI, PROGRAM, RDHUP, Ended, Illegal,
+    Kernel, Limits, Mask, Name, Watch, __version__, audit, library_version,
 )
 from nippersage._numbers import seconds, units
 
@@ -224,7 +224,147 @@ class Calls:
             last = kernel.socket("tcp")
             self.expect_refusal(errno.EADDRNOTAVAIL, kernel.connect, last, ("v4", 80))
             self.expect_refusal(errno.EADDRINUSE, kernel.bind, last, ("v4", 0))
+            self.expect_refusal(errno.EADDRINUSE, kernel.listen, last, 5)
+            kernel.listen(3, 5)
+            self.expect_refusal(errno.EADDRNOTAVAIL, kernel.connect, last, ("v4", 32_768))
             self.expect_refusal(errno.EINPROGRESS, kernel.connect, last, ("v6", 80))
+
+    def expect_nothing_shown(self, kernel, fd):
+        instance = kernel.epoll()
+        kernel.add(instance, fd, IN | OUT | PRI | RDHUP)
+        self.assertEqual(kernel.wait(instance), [])
+        kernel.close(instance)
+
+    def listener(self, kernel, family, name):
+        fd = kernel.socket(family)
+        kernel.bind(fd, name)
+        kernel.listen(fd, 5)
+        return fd
+
+    def test_what_listens(self):
+        with self.make() as kernel:
+            tcp, v6 = self.listener(kernel, "tcp", ("v4", 80)), self.listener(kernel, "tcp", ("v6", 80))
+            for backlog in (0, 1, 4_096, 4_097, 2_147_483_647, -1, -2_147_483_648):
+                kernel.listen(tcp, backlog)
+            self.assertEqual((kernel.sockname(tcp), kernel.sockname(v6)), (("v4", 80), ("v6", 80)))
+            unnamed, unix, (left, _) = kernel.socket("tcp"), kernel.socket("unix"), kernel.socketpair()
+            kernel.listen(unnamed, 0)
+            self.assertEqual(kernel.sockname(unnamed), ("v4", 32_768))
+            self.expect_refusal(errno.EINVAL, kernel.listen, unix, 5)
+            self.assertEqual(self.shown_at(kernel, unix), OUT | HUP)
+            kernel.bind(unix, ("local", 7))
+            kernel.listen(unix, 5)
+            for fd in (tcp, v6, unnamed, unix):
+                self.expect_nothing_shown(kernel, fd)
+            self.expect_refusal(errno.EINVAL, kernel.listen, left, 5)
+            self.expect_refusal(errno.ENOTSOCK, kernel.listen, 0, 5)
+            self.expect_refusal(errno.EBADF, kernel.listen, 77, 5)
+            self.expect_refusal(errno.ESRCH, kernel.task(0, pid=77).listen, tcp, 5)
+
+    def test_a_socket_whose_connect_failed_listens_once_told(self):
+        with self.make() as kernel:
+            fd = kernel.socket("tcp")
+            self.expect_refusal(errno.EINPROGRESS, kernel.connect, fd, ("v6", 80))
+            self.expect_refusal(errno.EINVAL, kernel.listen, fd, 5)
+            self.assertEqual(kernel.take_error(fd), 111)
+            self.expect_refusal(errno.EINVAL, kernel.listen, fd, 5)
+            self.expect_refusal(errno.ECONNABORTED, kernel.connect, fd, ("v4", 80))
+            kernel.listen(fd, 5)
+            self.assertEqual(kernel.sockname(fd), ("v6", 32_768))
+
+    def test_what_a_listener_answers(self):
+        with self.make() as kernel:
+            tcp, unix = self.listener(kernel, "tcp", ("v4", 80)), self.listener(kernel, "unix", ("local", 7))
+            for fd, read, write in ((tcp, errno.ENOTCONN, errno.EPIPE), (unix, errno.EINVAL, errno.ENOTCONN)):
+                self.expect_refusal(read, kernel.read, fd, 1)
+                self.expect_refusal(read, kernel.peek, fd, 1)
+                self.expect_refusal(write, kernel.write, fd, b"a")
+                self.assertEqual((kernel.read(fd, 0), kernel.peek(fd, 0), kernel.write(fd, b"")), (b"", b"", 0))
+                for how in ("rd", "wr", "rdwr"):
+                    self.expect_refusal(errno.ENOTCONN, kernel.shutdown, fd, how)
+                self.assertEqual(kernel.take_error(fd), 0)
+                self.expect_refusal(errno.ENOTCONN, kernel.peername, fd)
+                self.expect_nothing_shown(kernel, fd)
+            self.assertEqual((kernel.sockname(tcp), kernel.sockname(unix)), (Name("v4", 80), Name("local", 7)))
+            self.expect_refusal(errno.EAFNOSUPPORT, kernel.bind, tcp, ("local", 9))
+            self.expect_refusal(errno.EINVAL, kernel.bind, tcp, ("v4", 9))
+            self.expect_refusal(errno.EINVAL, kernel.bind, unix, ("v4", 9))
+            self.expect_refusal(errno.EINVAL, kernel.bind, unix, ("local", 9))
+            for name in (("local", 9), ("v4", 9), ("v4", 80)):
+                self.expect_refusal(errno.EISCONN, kernel.connect, tcp, name)
+            self.expect_refusal(errno.EINVAL, kernel.connect, unix, ("v4", 80))
+            self.expect_refusal(errno.ECONNREFUSED, kernel.connect, unix, ("local", 9))
+            self.expect_refusal(errno.EINVAL, kernel.connect, unix, ("local", 7))
+
+    def test_the_name_of_a_listener_is_taken(self):
+        with self.make() as kernel:
+            first = self.listener(kernel, "tcp", ("v4", 80))
+            copy, other = kernel.dup(first), kernel.socket("tcp")
+            self.expect_refusal(errno.EADDRINUSE, kernel.bind, other, ("v4", 80))
+            kernel.close(first)
+            self.expect_refusal(errno.EADDRINUSE, kernel.bind, other, ("v4", 80))
+            self.expect_refusal(errno.EINVAL, kernel.connect, other, ("v4", 80))
+            kernel.close(copy)
+            kernel.bind(other, ("v4", 80))
+
+    def test_connects_to_listeners(self):
+        with self.make() as kernel:
+            self.listener(kernel, "tcp", ("v4", 80))
+            self.listener(kernel, "unix", ("local", 7))
+            tcp, unix, (left, _) = kernel.socket("tcp"), kernel.socket("unix"), kernel.socketpair()
+            self.expect_refusal(errno.EAFNOSUPPORT, kernel.connect, tcp, ("local", 7))
+            self.expect_refusal(errno.EINVAL, kernel.connect, tcp, ("v4", 80))
+            self.assertEqual((kernel.sockname(tcp), self.shown_at(kernel, tcp)), (None, OUT | HUP))
+            self.expect_refusal(errno.EINPROGRESS, kernel.connect, tcp, ("v6", 80))
+            self.expect_refusal(errno.ECONNREFUSED, kernel.connect, tcp, ("v4", 80))
+            self.expect_refusal(errno.EINVAL, kernel.connect, tcp, ("v4", 80))
+            for fd, number in ((unix, errno.EINVAL), (left, errno.EISCONN)):
+                self.expect_refusal(errno.EINVAL, kernel.connect, fd, ("v4", 80))
+                self.expect_refusal(errno.ECONNREFUSED, kernel.connect, fd, ("local", 80))
+                self.expect_refusal(number, kernel.connect, fd, ("local", 7))
+            self.assertEqual((kernel.sockname(unix), self.shown_at(kernel, unix)), (None, OUT | HUP))
+
+    def test_accepts(self):
+        with self.make() as kernel:
+            for fd in (self.listener(kernel, "tcp", ("v4", 80)), self.listener(kernel, "unix", ("local", 7))):
+                with self.assertRaises(BlockingIOError) as caught:
+                    kernel.accept(fd)
+                self.assertEqual(str(caught.exception), "[Errno 11] EAGAIN")
+                self.expect_refusal(errno.EAGAIN, kernel.accept, fd, cloexec=True)
+            idle, (left, _) = kernel.socket("tcp"), kernel.socketpair()
+            self.expect_refusal(errno.EINVAL, kernel.accept, idle)
+            self.expect_refusal(errno.EINVAL, kernel.accept, left)
+            self.expect_refusal(errno.ENOTSOCK, kernel.accept, 0)
+            self.expect_refusal(errno.EBADF, kernel.accept, 77)
+
+    def test_what_a_listener_is_asked(self):
+        """The backlog and the flag get to the kernel, though nothing shows them yet."""
+        with tempfile.TemporaryDirectory() as room:
+            path = os.path.join(room, "kept.history")
+            with self.make(history=path) as kernel:
+                fd = kernel.socket("tcp")
+                kernel.listen(fd, -7)
+                for cloexec in (True, False):
+                    self.expect_refusal(errno.EAGAIN, kernel.accept, fd, cloexec)
+            with open(path) as kept:
+                calls = [json.loads(line)["event"]["call"] for line in kept]
+        self.assertEqual(calls[1:], [
+            {"op": "listen", "fd": fd, "backlog": -7}, {"op": "accept", "fd": fd, "cloexec": True},
+            {"op": "accept", "fd": fd, "cloexec": False},
+        ])
+
+    def test_accepts_no_more(self):
+        with self.make(limits=Limits(descriptors=4)) as kernel:
+            fd = self.listener(kernel, "tcp", ("v4", 80))
+            self.expect_refusal(errno.EMFILE, kernel.accept, fd)
+            self.expect_refusal(errno.EMFILE, kernel.accept, 0)
+            self.expect_refusal(errno.EBADF, kernel.accept, 4)
+        with self.make(limits=Limits(files=2)) as kernel:
+            fd = kernel.socket("tcp")
+            self.expect_refusal(errno.ENFILE, kernel.accept, fd)
+            kernel.listen(fd, 5)
+            self.expect_refusal(errno.ENFILE, kernel.accept, fd)
+            self.expect_refusal(errno.ENOTSOCK, kernel.accept, 0)
 
     def test_counters(self):
         with self.make() as kernel:
@@ -394,6 +534,8 @@ class Calls:
                 (kernel.socket, ("inet",)),
                 (kernel.bind, (0, ("v5", 80))),
                 (kernel.connect, (0, ("v4", -1))),
+                (kernel.listen, (0, 1 << 31)),
+                (kernel.accept, (1 << 31,)),
             ):
                 with self.assertRaises(ValueError):
                     call(*words)
@@ -426,6 +568,10 @@ class Calls:
                 (kernel.connect, (0, ("unix", 1)), "space"),
                 (kernel.connect, (0, ("local", 1 << 32)), "number"),
                 (kernel.connect, ("3", ("local", 1)), "fd"),
+                (kernel.listen, ("3", 5), "fd"),
+                (kernel.listen, (3, -(1 << 31) - 1), "backlog"),
+                (kernel.listen, (3, None), "backlog"),
+                (kernel.accept, (None,), "fd"),
             ):
                 with self.assertRaises((TypeError, ValueError)) as caught:
                     call(*words)
@@ -660,7 +806,7 @@ class Readme(unittest.TestCase):
     def test_its_programs(self):
         with open(os.path.join(FOLDER, "README.md")) as page:
             programs = re.findall(r"^```python\n(.*?)^```$", page.read(), re.M | re.S)
-        self.assertEqual(len(programs), 6)
+        self.assertEqual(len(programs), 7)
         for program in programs:
             told = run_anew(program)
             self.assertEqual((told.returncode, told.stderr), (0, b""))

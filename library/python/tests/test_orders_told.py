@@ -121,6 +121,25 @@ class Messages(unittest.TestCase):
         ])
         self.assertEqual(failure.why, "task raised ConnectionAbortedError: [Errno 103] ECONNABORTED")
 
+    def test_calls_of_listeners(self):
+        def task(t, e):
+            listener = t.socket("tcp")
+            t.listen(listener, 5)
+            for fd, cloexec in ((listener, True), (listener, False), (0, False)):
+                try:
+                    t.accept(fd, cloexec)
+                except OSError:
+                    pass
+            t.listen(t.socket("unix"), -1)
+
+        failure = failure_of(lambda kernel: None, {"task": task})
+        table = [re.split("  +", line.strip())[-2:] for line in lines_of(failure)[3:-2]]
+        self.assertEqual(table, [
+            ["socket('tcp')", "3"], ["task", "listen(3, 5)"], ["accept(3, cloexec=True)", "EAGAIN"],
+            ["accept(3)", "EAGAIN"], ["accept(0)", "ENOTSOCK"], ["socket('unix')", "4"], ["listen(4, -1)", "EINVAL"],
+        ])
+        self.assertEqual(failure.why, "task raised OSError: [Errno 22] EINVAL")
+
     def test_a_loop_asleep_beside_a_socket(self):
         """A connect that finds nobody leaves all five bits, and the loop reads nothing."""
 

@@ -14,8 +14,8 @@ from ._words import call_text
 #: The calls of a task, as the kernel is asked.
 CALLS = (
     "pipe", "socketpair", "socket", "eventfd", "timerfd", "plain", "epoll", "ctl", "wait", "epoll_wait", "resume",
-    "read", "write", "fill", "shutdown", "peek", "take_error", "sockname", "peername", "bind", "connect", "settime",
-    "gettime", "dup", "dup2", "close", "fork", "exec", "exit", "tick",
+    "read", "write", "fill", "shutdown", "peek", "take_error", "sockname", "peername", "bind", "listen", "accept",
+    "connect", "settime", "gettime", "dup", "dup2", "close", "fork", "exec", "exit", "tick",
 )
 #: The number of setup, in place of a task's.
 SETUP = -1

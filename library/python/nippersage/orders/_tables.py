@@ -109,10 +109,10 @@ class Tables:
 
 
 _FOLLOWED: Dict[str, Callable[..., None]] = {
-    "pipe": Tables._open_two, "socketpair": Tables._open_two, "socket": Tables._open, "eventfd": Tables._open,
-    "timerfd": Tables._open, "plain": Tables._open, "epoll": Tables._open, "ctl": Tables._ctl, "wait": Tables._wait,
-    "resume": Tables._resume, "dup": Tables._dup, "dup2": Tables._dup, "close": Tables._close, "fork": Tables._fork,
-    "exec": Tables._exec, "exit": Tables._exit,
+    "pipe": Tables._open_two, "socketpair": Tables._open_two, "socket": Tables._open, "accept": Tables._open,
+    "eventfd": Tables._open, "timerfd": Tables._open, "plain": Tables._open, "epoll": Tables._open, "ctl": Tables._ctl,
+    "wait": Tables._wait, "resume": Tables._resume, "dup": Tables._dup, "dup2": Tables._dup, "close": Tables._close,
+    "fork": Tables._fork, "exec": Tables._exec, "exit": Tables._exit,
 }
 
 

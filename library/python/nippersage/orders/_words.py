@@ -57,6 +57,7 @@ _TOLD: Dict[str, Callable[..., str]] = {
     "wait": lambda ep, most, timeout: f"wait({ep}, {most}, {time_text(timeout)})",
     "write": lambda fd, data: f"write({fd}, {bytes_text(data)})",
     "bind": lambda fd, name: f"bind({fd}, {tuple(name)})",
+    "accept": lambda fd, cloexec: f"accept({fd}{_flags(('cloexec', cloexec))})",
     "connect": lambda fd, name: f"connect({fd}, {tuple(name)})",
     "shutdown": lambda fd, how: f"shutdown({fd})" if how == "wr" else f"shutdown({fd}, {how!r})",
     "settime": _settime,
