@@ -39,7 +39,7 @@ EXCLUSIVE, WAKEUP, ONESHOT, ET = Mask.EXCLUSIVE, Mask.WAKEUP, Mask.ONESHOT, Mask
 #: The numbers that each key of a line may have, as docs/script.md has them.
 _INT, _UINT, _ULONG = (-(1 << 31), (1 << 31) - 1), (0, (1 << 32) - 1), (0, (1 << 64) - 1)
 _RANGES = {
-    **dict.fromkeys(("ep", "fd", "to", "max", "clock"), _INT),
+    **dict.fromkeys(("ep", "fd", "to", "max", "clock", "backlog"), _INT),
     **dict.fromkeys(("by", "init", "mask"), _UINT),
     **dict.fromkeys(("pid", "data", "value", "interval"), _ULONG),
 }
@@ -299,11 +299,22 @@ class Kernel:
         space, number = name
         self._call("bind", fd=fd, space=space, name=number, by=by, pid=pid)
 
+    def listen(self, fd, backlog, *, by=0, pid=1):
+        """Makes a socket listen at its name.
+
+        One of TCP without a name gets one by this, and one of Unix has to have one. `backlog` + 1
+        connections may wait there. A backlog above 4,096 or below 0 is 4,096."""
+        self._call("listen", fd=fd, backlog=backlog, by=by, pid=pid)
+
+    def accept(self, fd, cloexec=False, *, by=0, pid=1):
+        """The connection that waits longest at a listener. None waits yet: EAGAIN, a BlockingIOError."""
+        return self._call("accept", fd=fd, cloexec=cloexec, by=by, pid=pid)["num"]
+
     def connect(self, fd, name, *, by=0, pid=1):
         """Connects a socket to this name, (space, number). EINPROGRESS, a BlockingIOError, if it connects.
 
-        Nobody listens yet, so no connect gets through: that of TCP has failed when the call returns,
-        and that of Unix is ECONNREFUSED."""
+        No connect gets through yet. If nobody listens at the name, that of TCP has failed when the call
+        returns, and that of Unix is ECONNREFUSED. If a socket listens there, it is EINVAL."""
         space, number = name
         answer = self._call("connect", fd=fd, space=space, name=number, by=by, pid=pid)
         if "connecting" in answer:

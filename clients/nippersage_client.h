@@ -539,8 +539,24 @@ static inline int nippersage_bind(struct nippersage *kernel, int fd, const struc
     return nippersage_ask_with(kernel, "bind", fd, name);
 }
 
-/* Connects a socket to this name: 0 if it is done, -EINPROGRESS if it connects. Nobody listens yet, so no connect gets
- * through: that of a TCP socket has failed when the call returns, and that of a Unix one is -ECONNREFUSED. */
+/* Makes a socket listen at its name. A TCP socket without a name gets one by this, and a Unix one has to have one.
+ * `backlog` + 1 connections may wait there. A backlog above 4,096 or below 0 is 4,096. */
+static inline int nippersage_listen(struct nippersage *kernel, int fd, int backlog) {
+    char rest[64];
+    snprintf(rest, sizeof rest, ",\"fd\":%d,\"backlog\":%d", fd, backlog);
+    return nippersage_ask(kernel, "listen", 1, rest);
+}
+
+/* The connection that waits longest at a listener. None waits yet, so it is -EAGAIN. */
+static inline int nippersage_accept(struct nippersage *kernel, int fd, int cloexec) {
+    char rest[64];
+    snprintf(rest, sizeof rest, ",\"fd\":%d,\"cloexec\":%s", fd, cloexec ? "true" : "false");
+    return (int)nippersage_number(kernel, "accept", rest);
+}
+
+/* Connects a socket to this name: 0 if it is done, -EINPROGRESS if it connects. No connect gets through yet. If nobody
+ * listens at the name, that of a TCP socket has failed when the call returns, and that of a Unix one is -ECONNREFUSED.
+ * If a socket listens there, it is -EINVAL. */
 static inline int nippersage_connect(struct nippersage *kernel, int fd, const struct nippersage_name *name) {
     return nippersage_ask_with(kernel, "connect", fd, name);
 }

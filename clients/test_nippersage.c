@@ -314,6 +314,118 @@ static void taken_errors(const char *path) {
     EXPECT(nippersage_end(&kernel) == 0);
 }
 
+/* A file shows no bit. */
+static void shows_nothing(struct nippersage *kernel, int fd) {
+    struct nippersage_report found;
+    int ep = nippersage_epoll(kernel, 0);
+    uint32_t asked = NIPPERSAGE_IN | NIPPERSAGE_OUT | NIPPERSAGE_PRI | NIPPERSAGE_RDHUP;
+    EXPECT(nippersage_ctl(kernel, ep, NIPPERSAGE_ADD, fd, asked, 0) == 0);
+    EXPECT(nippersage_wait(kernel, ep, &found, 1, 0) == 0 && nippersage_close(kernel, ep) == 0);
+}
+
+/* A new kernel with a listener of TCP at 3, and a Unix one at 4. */
+static void with_listeners(struct nippersage *kernel, const char *path) {
+    static const struct nippersage_name port = {"v4", 80}, local = {"local", 7};
+    EXPECT(nippersage_start(kernel, path, NULL) == 0);
+    EXPECT(nippersage_socket(kernel, AF_INET, 0) == 3 && nippersage_socket(kernel, AF_UNIX, 0) == 4);
+    EXPECT(nippersage_listen(kernel, 4, 5) == -EINVAL && shown_at(kernel, 4) == (NIPPERSAGE_OUT | NIPPERSAGE_HUP));
+    EXPECT(nippersage_bind(kernel, 3, &port) == 0 && nippersage_bind(kernel, 4, &local) == 0);
+    EXPECT(nippersage_listen(kernel, 3, 5) == 0 && nippersage_listen(kernel, 4, 5) == 0);
+}
+
+static void listens(const char *path) {
+    static const struct nippersage_name port = {"v6", 80};
+    struct nippersage kernel;
+    int ends[2];
+    with_listeners(&kernel, path);
+    EXPECT(nippersage_listen(&kernel, 3, INT32_MAX) == 0 && nippersage_listen(&kernel, 4, INT32_MIN) == 0);
+    EXPECT(nippersage_socket(&kernel, AF_INET, 0) == 5 && nippersage_listen(&kernel, 5, 0) == 0);
+    is_named(&kernel, 3, "v4", 80);
+    is_named(&kernel, 4, "local", 7);
+    is_named(&kernel, 5, "v4", 32768);
+    shows_nothing(&kernel, 3);
+    shows_nothing(&kernel, 4);
+    EXPECT(nippersage_listen(&kernel, 0, 5) == -ENOTSOCK && nippersage_listen(&kernel, 9, 5) == -EBADF);
+    EXPECT(nippersage_socketpair(&kernel, 0, ends) == 0 && nippersage_listen(&kernel, ends[0], 5) == -EINVAL);
+    EXPECT(nippersage_socket(&kernel, AF_INET, 0) == 8 && nippersage_connect(&kernel, 8, &port) == -EINPROGRESS);
+    EXPECT(nippersage_listen(&kernel, 8, 5) == -EINVAL && nippersage_take_error(&kernel, 8) == 111);
+    EXPECT(nippersage_listen(&kernel, 8, 5) == -EINVAL && nippersage_connect(&kernel, 8, &port) == -ECONNABORTED);
+    EXPECT(nippersage_listen(&kernel, 8, 5) == 0 && nippersage_end(&kernel) == 0);
+}
+
+static void of_listeners(const char *path) {
+    static const struct nippersage_name port = {"v4", 80}, local = {"local", 7}, other = {"local", 9};
+    struct nippersage_name name;
+    struct nippersage kernel;
+    char bytes[8];
+    with_listeners(&kernel, path);
+    EXPECT(nippersage_read(&kernel, 3, bytes, 1) == -ENOTCONN && nippersage_peek(&kernel, 4, bytes, 1) == -EINVAL);
+    EXPECT(nippersage_write(&kernel, 3, "a", 1) == -EPIPE && nippersage_write(&kernel, 4, "a", 1) == -ENOTCONN);
+    EXPECT(nippersage_read(&kernel, 3, bytes, 0) == 0 && nippersage_write(&kernel, 4, "a", 0) == 0);
+    EXPECT(nippersage_shutdown(&kernel, 3, SHUT_RD) == -ENOTCONN && nippersage_take_error(&kernel, 4) == 0);
+    EXPECT(nippersage_peername(&kernel, 4, &name) == -ENOTCONN && nippersage_bind(&kernel, 3, &local) == -EAFNOSUPPORT);
+    EXPECT(nippersage_bind(&kernel, 3, &port) == -EINVAL && nippersage_bind(&kernel, 4, &other) == -EINVAL);
+    EXPECT(nippersage_connect(&kernel, 3, &local) == -EISCONN && nippersage_connect(&kernel, 4, &port) == -EINVAL);
+    EXPECT(nippersage_connect(&kernel, 4, &other) == -ECONNREFUSED);
+    EXPECT(nippersage_connect(&kernel, 4, &local) == -EINVAL && nippersage_end(&kernel) == 0);
+}
+
+/* Nobody gets through to a listener. */
+static void connects_to_listeners(const char *path) {
+    static const struct nippersage_name port = {"v4", 80}, local = {"local", 7}, other = {"local", 9};
+    struct nippersage_name name;
+    struct nippersage kernel;
+    int ends[2];
+    with_listeners(&kernel, path);
+    EXPECT(nippersage_socket(&kernel, AF_INET, 0) == 5 && nippersage_connect(&kernel, 5, &port) == -EINVAL);
+    EXPECT(nippersage_connect(&kernel, 5, &local) == -EAFNOSUPPORT && nippersage_sockname(&kernel, 5, &name) == 0);
+    EXPECT(nippersage_bind(&kernel, 5, &port) == -EADDRINUSE);
+    EXPECT(nippersage_socket(&kernel, AF_UNIX, 0) == 6 && nippersage_connect(&kernel, 6, &local) == -EINVAL);
+    EXPECT(nippersage_connect(&kernel, 6, &other) == -ECONNREFUSED);
+    EXPECT(nippersage_socketpair(&kernel, 0, ends) == 0 && nippersage_connect(&kernel, ends[0], &local) == -EISCONN);
+    EXPECT(nippersage_connect(&kernel, ends[0], &other) == -ECONNREFUSED);
+    EXPECT(nippersage_connect(&kernel, ends[0], &port) == -EINVAL);
+    EXPECT(nippersage_close(&kernel, 3) == 0 && nippersage_bind(&kernel, 5, &port) == 0);
+    EXPECT(nippersage_end(&kernel) == 0);
+}
+
+static void accepts(const char *path) {
+    struct nippersage kernel;
+    with_listeners(&kernel, path);
+    EXPECT(nippersage_accept(&kernel, 3, 0) == -EAGAIN && nippersage_accept(&kernel, 4, 1) == -EAGAIN);
+    EXPECT(nippersage_socket(&kernel, AF_INET, 0) == 5 && nippersage_accept(&kernel, 5, 0) == -EINVAL);
+    EXPECT(nippersage_accept(&kernel, 0, 0) == -ENOTSOCK && nippersage_accept(&kernel, 9, 0) == -EBADF);
+    EXPECT(nippersage_end(&kernel) == 0);
+    EXPECT(nippersage_start(&kernel, path, "4,9,2,8,4096,4096") == 0);
+    EXPECT(nippersage_socket(&kernel, AF_INET, 0) == 3 && nippersage_listen(&kernel, 3, 5) == 0);
+    EXPECT(nippersage_accept(&kernel, 3, 0) == -EMFILE && nippersage_accept(&kernel, 0, 0) == -EMFILE);
+    EXPECT(nippersage_end(&kernel) == 0);
+    EXPECT(nippersage_start(&kernel, path, "9,2,2,8,4096,4096") == 0);
+    EXPECT(nippersage_socket(&kernel, AF_INET, 0) == 3 && nippersage_accept(&kernel, 3, 0) == -ENFILE);
+    EXPECT(nippersage_accept(&kernel, 0, 0) == -ENOTSOCK && nippersage_end(&kernel) == 0);
+}
+
+/* A line of a history has this call. */
+static void has_call(const char *history, int place, const char *call) {
+    char line[256] = "";
+    FILE *kept = fopen(history, "r");
+    while (kept && place-- >= 0 && fgets(line, sizeof line, kept)) continue;
+    EXPECT(strstr(line, call) != NULL);
+    if (kept) fclose(kept);
+}
+
+/* The backlog and the flag get to the kernel, though nothing shows them yet. */
+static void asks_of_listeners(const char *path) {
+    struct nippersage kernel;
+    EXPECT(nippersage_start_recording(&kernel, path, NULL, "asked.history") == 0);
+    EXPECT(nippersage_socket(&kernel, AF_INET, 0) == 3 && nippersage_listen(&kernel, 3, -7) == 0);
+    EXPECT(nippersage_accept(&kernel, 3, 1) == -EAGAIN && nippersage_accept(&kernel, 3, 0) == -EAGAIN);
+    EXPECT(nippersage_end(&kernel) == 0);
+    has_call("asked.history", 1, "{\"backlog\":-7,\"fd\":3,\"op\":\"listen\"}");
+    has_call("asked.history", 2, "{\"cloexec\":true,\"fd\":3,\"op\":\"accept\"}");
+    has_call("asked.history", 3, "{\"cloexec\":false,\"fd\":3,\"op\":\"accept\"}");
+}
+
 static void no_answer_of_the_kernel(const char *path) {
     static const char many[40000];
     struct nippersage kernel;
@@ -427,6 +539,11 @@ int main(int count, char **words) {
     names_given(words[1]);
     failed_connects(words[1]);
     taken_errors(words[1]);
+    listens(words[1]);
+    of_listeners(words[1]);
+    connects_to_listeners(words[1]);
+    accepts(words[1]);
+    asks_of_listeners(words[1]);
     no_answer_of_the_kernel(words[1]);
     return failures != 0;
 }

@@ -1,6 +1,7 @@
 """What the Python client hands on. The expected answers are those of examples/ and docs/calls.md."""
 
 import errno
+import json
 import os
 import sys
 import tempfile
@@ -9,7 +10,7 @@ from datetime import timedelta
 
 sys.dont_write_bytecode = True
 
-from nippersage import ERR, ET, EXCLUSIVE, HUP, IN, ONESHOT, OUT, RDHUP, Ended, Illegal, Kernel, audit
+from nippersage import ERR, ET, EXCLUSIVE, HUP, IN, ONESHOT, OUT, PRI, RDHUP, Ended, Illegal, Kernel, audit
 
 #: 16 descriptors, 16 files, 2 processes, a registration, and the least room of pipes and sockets.
 SMALL = (16, 16, 2, 1, 4_096, 4_096)
@@ -229,6 +230,110 @@ class Client(unittest.TestCase):
             self.expect_refusal(errno.ENOTSOCK, kernel.connect, 0, ("local", 7))
             self.expect_refusal(errno.EBADF, kernel.connect, 77, ("local", 7))
 
+    def expect_nothing_shown(self, kernel, fd):
+        instance = kernel.epoll()
+        kernel.add(instance, fd, IN | OUT | PRI | RDHUP)
+        self.assertEqual(kernel.wait(instance), [])
+        kernel.close(instance)
+
+    def listeners(self, kernel):
+        """One of TCP at 80, and a Unix one at 7."""
+        tcp, unix = kernel.socket("tcp"), kernel.socket("unix")
+        for fd, name in ((tcp, ("v4", 80)), (unix, ("local", 7))):
+            kernel.bind(fd, name)
+            kernel.listen(fd, 5)
+        return tcp, unix
+
+    def test_what_listens(self):
+        with Kernel() as kernel:
+            tcp, unix = self.listeners(kernel)
+            for backlog in (0, 4_097, 2_147_483_647, -1, -2_147_483_648):
+                kernel.listen(tcp, backlog)
+            unnamed, left = kernel.socket("tcp"), kernel.socketpair()[0]
+            kernel.listen(unnamed, 0)
+            names = tuple(map(kernel.sockname, (tcp, unix, unnamed)))
+            self.assertEqual(names, (("v4", 80), ("local", 7), ("v4", 32_768)))
+            for fd in (tcp, unix, unnamed):
+                self.expect_nothing_shown(kernel, fd)
+            self.expect_refusal(errno.EINVAL, kernel.listen, kernel.socket("unix"), 5)
+            self.expect_refusal(errno.EINVAL, kernel.listen, left, 5)
+            self.expect_refusal(errno.ENOTSOCK, kernel.listen, 0, 5)
+            self.expect_refusal(errno.EBADF, kernel.listen, 77, 5)
+
+    def test_a_socket_whose_connect_failed_listens_once_told(self):
+        with Kernel() as kernel:
+            fd = kernel.socket("tcp")
+            self.expect_refusal(errno.EINPROGRESS, kernel.connect, fd, ("v6", 80))
+            self.expect_refusal(errno.EINVAL, kernel.listen, fd, 5)
+            self.assertEqual(kernel.take_error(fd), 111)
+            self.expect_refusal(errno.EINVAL, kernel.listen, fd, 5)
+            self.expect_refusal(errno.ECONNABORTED, kernel.connect, fd, ("v4", 80))
+            kernel.listen(fd, 5)
+
+    def test_what_a_listener_answers(self):
+        with Kernel() as kernel:
+            tcp, unix = self.listeners(kernel)
+            for fd, read, write in ((tcp, errno.ENOTCONN, errno.EPIPE), (unix, errno.EINVAL, errno.ENOTCONN)):
+                self.expect_refusal(read, kernel.read, fd, 1)
+                self.expect_refusal(read, kernel.peek, fd, 1)
+                self.expect_refusal(write, kernel.write, fd, b"a")
+                self.assertEqual((kernel.read(fd, 0), kernel.write(fd, b""), kernel.take_error(fd)), (b"", 0, 0))
+                self.expect_refusal(errno.ENOTCONN, kernel.shutdown, fd)
+                self.expect_refusal(errno.ENOTCONN, kernel.peername, fd)
+                self.expect_refusal(errno.EINVAL, kernel.bind, fd, kernel.sockname(fd))
+            self.expect_refusal(errno.EISCONN, kernel.connect, tcp, ("local", 9))
+            self.expect_refusal(errno.EINVAL, kernel.connect, unix, ("v4", 80))
+            self.expect_refusal(errno.ECONNREFUSED, kernel.connect, unix, ("local", 9))
+            self.expect_refusal(errno.EINVAL, kernel.connect, unix, ("local", 7))
+
+    def test_connects_to_listeners(self):
+        with Kernel() as kernel:
+            listener, _ = self.listeners(kernel)
+            tcp, unix, left = kernel.socket("tcp"), kernel.socket("unix"), kernel.socketpair()[0]
+            self.expect_refusal(errno.EINVAL, kernel.connect, tcp, ("v4", 80))
+            self.expect_refusal(errno.EAFNOSUPPORT, kernel.connect, tcp, ("local", 7))
+            self.assertEqual((kernel.sockname(tcp), self.shown_at(kernel, tcp)), (None, OUT | HUP))
+            for fd, number in ((unix, errno.EINVAL), (left, errno.EISCONN)):
+                self.expect_refusal(errno.EINVAL, kernel.connect, fd, ("v4", 80))
+                self.expect_refusal(errno.ECONNREFUSED, kernel.connect, fd, ("local", 80))
+                self.expect_refusal(number, kernel.connect, fd, ("local", 7))
+            self.expect_refusal(errno.EADDRINUSE, kernel.bind, tcp, ("v4", 80))
+            kernel.close(listener)
+            kernel.bind(tcp, ("v4", 80))
+
+    def test_accepts(self):
+        with Kernel() as kernel:
+            for fd in self.listeners(kernel):
+                with self.assertRaises(BlockingIOError):
+                    kernel.accept(fd)
+                self.expect_refusal(errno.EAGAIN, kernel.accept, fd, cloexec=True)
+            self.expect_refusal(errno.EINVAL, kernel.accept, kernel.socket("tcp"))
+            self.expect_refusal(errno.ENOTSOCK, kernel.accept, 0)
+            self.expect_refusal(errno.EBADF, kernel.accept, 77)
+        with Kernel(limits=(4, 9, 2, 8, 4_096, 4_096)) as kernel:
+            kernel.listen(kernel.socket("tcp"), 5)
+            self.expect_refusal(errno.EMFILE, kernel.accept, 3)
+            self.expect_refusal(errno.EMFILE, kernel.accept, 0)
+        with Kernel(limits=(9, 2, 2, 8, 4_096, 4_096)) as kernel:
+            self.expect_refusal(errno.ENFILE, kernel.accept, kernel.socket("tcp"))
+            self.expect_refusal(errno.ENOTSOCK, kernel.accept, 0)
+
+    def test_what_a_listener_is_asked(self):
+        """The backlog and the flag get to the kernel, though nothing shows them yet."""
+        with tempfile.TemporaryDirectory() as room:
+            path = os.path.join(room, "kept.history")
+            with Kernel(history=path) as kernel:
+                fd = kernel.socket("tcp")
+                kernel.listen(fd, -7)
+                for cloexec in (True, False):
+                    self.expect_refusal(errno.EAGAIN, kernel.accept, fd, cloexec)
+            with open(path) as kept:
+                calls = [json.loads(line)["event"]["call"] for line in kept]
+        self.assertEqual(calls[1:], [
+            {"op": "listen", "fd": fd, "backlog": -7}, {"op": "accept", "fd": fd, "cloexec": True},
+            {"op": "accept", "fd": fd, "cloexec": False},
+        ])
+
     def test_what_is_no_call(self):
         with Kernel() as kernel:
             for call, words, key in (
@@ -242,6 +347,8 @@ class Client(unittest.TestCase):
                 (kernel.bind, (3, ("v5", 80)), "space: 'v5'"),
                 (kernel.bind, (3, ("v6", 65_536)), "name: 65536"),
                 (kernel.connect, (3, ("local", -1)), "name: -1"),
+                (kernel.listen, (3, 1 << 31), "backlog: 2147483648"),
+                (kernel.accept, (-(1 << 31) - 1,), "fd: -2147483649"),
             ):
                 with self.assertRaises(ValueError) as caught:
                     call(*words)
