@@ -21,6 +21,8 @@ struct parked {
     int epfd;
     int most;
     int64_t timeout;
+    int is_asleep;              /* its thread sleeps in the wait; else it waits by hand */
+    int was_marked, was_tried; /* of use only while waits are ended */
 };
 
 /* A thread that sleeps in a wait. It lies on that thread's stack, and is read and changed under the lock. */
@@ -46,6 +48,8 @@ struct nippersage_kernel {
     struct sleeper *sleepers;
     struct parked *parked;
     size_t parked_count, parked_room;
+    struct parked *dead; /* who waited when -EDEADLK was last answered */
+    size_t dead_count;
     struct ep_report *reports; /* the room of each wait, one at a time */
     size_t reports_room;
     int most_reports;
@@ -75,6 +79,17 @@ int64_t kernel_make(struct nippersage_task task, struct exchange *x);
 
 /* Room for the reports of a wait, under the lock: 1, or 0 for want of memory. */
 int kernel_has_reports(struct nippersage_kernel *kernel, size_t most);
+
+/* Begins a wait, under the lock, with room for its reports and for one more parked caller. What the kernel answers. */
+int64_t kernel_park(struct nippersage_task task, int epfd, int most, int64_t timeout);
+
+/* Takes a caller out of those that are parked, and lets the others stay in their order. */
+void kernel_forget_parked(struct nippersage_kernel *kernel, struct parked *gone);
+
+/* Ends the waits of all that sleep in one, under the lock, since nothing else can. A wait stays if its instance is
+ * ready, if the number that it named names that instance no more, or if there is no room for an eventfd and its
+ * registration. */
+void kernel_end_waits(struct nippersage_kernel *kernel);
 
 /* As nippersage_watches_awaited, under the lock. */
 int kernel_watches_awaited(struct nippersage_kernel *kernel, uint32_t caller, struct nippersage_watch *watches,

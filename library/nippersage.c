@@ -205,6 +205,7 @@ void nippersage_free(struct nippersage_kernel *kernel) {
         free(kernel->turns);
     }
     free(kernel->parked);
+    free(kernel->dead);
     free(kernel->reports);
     free(kernel);
 }
@@ -473,24 +474,31 @@ static void put_events(const struct nippersage_kernel *kernel, int64_t count, st
     }
 }
 
+int64_t kernel_park(struct nippersage_task task, int epfd, int most, int64_t timeout) {
+    struct nippersage_kernel *kernel = task.kernel;
+    struct exchange x = {.request = {.event = EP_WAIT, .fd = epfd, .number = most, .timeout = timeout}};
+    int64_t result;
+    x.reports = most > 0 ? (size_t)most : 0;
+    result = kernel_make(task, &x);
+    if (result == EP_PARKED)
+        kernel->parked[kernel->parked_count++] =
+            (struct parked){.caller = task.caller, .pid = task.pid, .epfd = epfd, .most = most, .timeout = timeout};
+    return result;
+}
+
 /* Begins a wait, under the lock. Its timeout is in microseconds, and has no end below 0. */
 static int start(struct nippersage_task task, int epfd, struct epoll_event *events, int maxevents, int64_t timeout) {
     struct nippersage_kernel *kernel = task.kernel;
     int most = maxevents < kernel->most_reports ? maxevents : kernel->most_reports;
-    struct exchange x = {.request = {.event = EP_WAIT, .fd = epfd, .number = most, .timeout = timeout}};
     int64_t result;
     if (!events && maxevents > 0) return -EFAULT;
-    x.reports = most > 0 ? (size_t)most : 0;
-    if (!has_room(kernel) || !kernel_has_reports(kernel, x.reports)) return no_memory(task);
-    result = kernel_make(task, &x);
-    if (result == EP_PARKED)
-        kernel->parked[kernel->parked_count++] = (struct parked){task.caller, task.pid, epfd, most, timeout};
+    if (!has_room(kernel) || !kernel_has_reports(kernel, most > 0 ? (size_t)most : 0)) return no_memory(task);
+    result = kernel_park(task, epfd, most, timeout);
     put_events(kernel, result, events);
     return (int)result;
 }
 
-/* Takes a caller out, and lets the others stay in their order. */
-static void forget_parked(struct nippersage_kernel *kernel, struct parked *gone) {
+void kernel_forget_parked(struct nippersage_kernel *kernel, struct parked *gone) {
     const struct parked *end = kernel->parked + kernel->parked_count--;
     memmove(gone, gone + 1, (size_t)(end - (gone + 1)) * sizeof *gone);
 }
@@ -507,7 +515,7 @@ static int resume(struct nippersage_task task, struct epoll_event *events, int m
     result = kernel_make(task, &x);
     if (parked && result >= 0) {
         put_events(kernel, result, events);
-        forget_parked(kernel, parked);
+        kernel_forget_parked(kernel, parked);
     }
     return (int)result;
 }
@@ -568,12 +576,14 @@ int kernel_go_on(struct nippersage_task task, int64_t *result) {
     return 1;
 }
 
-/* Moves the clock to the next moment; where there is none, each wait that sleeps is to end with -EDEADLK. */
+/* Moves the clock to the next moment; where there is none, each wait that sleeps ends with -EDEADLK. */
 static int go_on(struct nippersage_task task) {
     struct nippersage_kernel *kernel = task.kernel;
     int64_t result = 0;
-    if (!kernel_go_on(task, &result))
+    if (!kernel_go_on(task, &result)) {
+        kernel_end_waits(kernel);
         for (struct sleeper *s = kernel->sleepers; s; s = s->next) s->status = -EDEADLK;
+    }
     pthread_cond_broadcast(&kernel->changed);
     return (int)result;
 }
@@ -618,6 +628,19 @@ static int stand_in_wait(struct nippersage_task task, struct epoll_event *events
     return result;
 }
 
+/* Sleeps in a wait that parked its caller, where a thread sleeps: one that an order calls back comes back instead. */
+static int sleep_or_stand(struct nippersage_task task, struct epoll_event *events, int maxevents) {
+    struct nippersage_kernel *kernel = task.kernel;
+    int stands = kernel->turns && (kernel->turns->order || kernel->tasks > 0), result;
+    struct parked *parked;
+    if (!stands && kernel->order && order_is_by_turn(kernel->order)) return EP_PARKED;
+    parked_of(kernel, task.caller)->is_asleep = 1;
+    result = stands ? stand_in_wait(task, events, maxevents) : sleep_in_wait(task, events, maxevents);
+    parked = parked_of(kernel, task.caller);
+    if (parked) parked->is_asleep = 0;
+    return result;
+}
+
 static int wait_for(struct nippersage_task task, int epfd, struct epoll_event *events, int maxevents, int64_t timeout) {
     struct nippersage_kernel *kernel = task.kernel;
     int result;
@@ -628,10 +651,7 @@ static int wait_for(struct nippersage_task task, int epfd, struct epoll_event *e
         result = resume(task, events, maxevents);
     } else {
         result = start(task, epfd, events, maxevents, timeout);
-        if (result == EP_PARKED && kernel->turns && (kernel->turns->order || kernel->tasks > 0))
-            result = stand_in_wait(task, events, maxevents);
-        else if (result == EP_PARKED && !(kernel->order && order_is_by_turn(kernel->order)))
-            result = sleep_in_wait(task, events, maxevents);
+        if (result == EP_PARKED) result = sleep_or_stand(task, events, maxevents);
     }
     kernel_leave(kernel);
     return result;
@@ -736,13 +756,28 @@ static struct nippersage_waiter waiter_of(const struct parked *parked) {
     };
 }
 
+/* Tells the first of these callers, and how many they are. */
+static int tell_waiters(const struct parked *parked, size_t count, struct nippersage_waiter *waiters, int room) {
+    for (size_t i = 0; i < count && i < (size_t)room; i++) waiters[i] = waiter_of(&parked[i]);
+    return (int)count;
+}
+
 int nippersage_waiters(struct nippersage_kernel *kernel, struct nippersage_waiter *waiters, int room) {
     int count;
     if (!kernel || room < 0) return -EINVAL;
     if (!waiters && room > 0) return -EFAULT;
     kernel_enter(kernel);
-    count = (int)kernel->parked_count;
-    for (int i = 0; i < count && i < room; i++) waiters[i] = waiter_of(&kernel->parked[i]);
+    count = tell_waiters(kernel->parked, kernel->parked_count, waiters, room);
+    kernel_leave(kernel);
+    return count;
+}
+
+int nippersage_deadlock(struct nippersage_kernel *kernel, struct nippersage_waiter *waiters, int room) {
+    int count;
+    if (!kernel || room < 0) return -EINVAL;
+    if (!waiters && room > 0) return -EFAULT;
+    kernel_enter(kernel);
+    count = tell_waiters(kernel->dead, kernel->dead_count, waiters, room);
     kernel_leave(kernel);
     return count;
 }

@@ -151,10 +151,16 @@ int nippersage_epoll_ctl(struct nippersage_task task, int epfd, int op, int fd, 
  * reportable and the timeout isn't 0, the call parks its caller and comes back when its wait has ended. Meanwhile other
  * threads may use the kernel. As soon as each thread that is inside a call of this kernel is in such a wait, and none
  * of them is about to end, the clock goes on by itself to the next moment at which something happens. So a wait for an
- * hour comes back at once if no other thread does anything. -EDEADLK where there is no such moment: then every such
- * wait answers it, and nippersage_waiters tells who waits at what. Its caller is still parked, as after -ENOMEM, and
- * ends its wait by nippersage_resume. A thread that is between two calls counts only by nippersage_tasks. maxevents
- * above `watches` is taken as that. */
+ * hour comes back at once if no other thread does anything. A thread that is between two calls counts only by
+ * nippersage_tasks. maxevents above `watches` is taken as that.
+ *
+ * -EDEADLK where there is no such moment: then every such wait answers it, and nippersage_deadlock tells who waited at
+ * what. Its caller is not parked any more, so it may call again. A wait ends by an event of the kernel only, so the
+ * library makes one: it registers an eventfd that is ready at the instance, takes its report, and closes it. These
+ * events are in the history, as those of the highest caller that isn't parked, 4,294,967,295. Whoever waits there by
+ * hand is parked anew behind all others. A caller stays parked if its instance is ready, which only EPOLLEXCLUSIVE
+ * brings about, if the number that its wait named names that instance no more, or if a limit leaves no room for the
+ * eventfd. It then ends its wait by nippersage_resume, as after -ENOMEM. */
 int nippersage_epoll_wait(struct nippersage_task task, int epfd, struct epoll_event *events, int maxevents,
                           int timeout);
 
@@ -200,6 +206,9 @@ int nippersage_is_marked(struct nippersage_kernel *kernel, uint32_t caller);
 /* Tells the parked callers and their waits, the one that was parked first at the beginning, as many as have room. How
  * many are parked, which may be more. A caller counts until its wait was resumed. -EINVAL for room below 0. */
 int nippersage_waiters(struct nippersage_kernel *kernel, struct nippersage_waiter *waiters, int room);
+
+/* The same of those that were parked when -EDEADLK was last answered, or 0 if it never was. */
+int nippersage_deadlock(struct nippersage_kernel *kernel, struct nippersage_waiter *waiters, int room);
 
 /* Tells the registrations of an instance in the order in which they were added, as many as have room. How many there
  * are, which may be more. It is no call: the history stays, and a parked caller may be the one who asks. Each registration

@@ -104,13 +104,16 @@ static uint64_t count_ready(const struct turns *turns) {
     return count;
 }
 
-/* Moves the clock, or lets each wait end with -EDEADLK, until somebody can go on. */
+/* Moves the clock, or ends each wait with -EDEADLK, until somebody can go on. */
 static uint64_t wake_somebody(struct turns *turns) {
     uint64_t count;
     while ((count = count_ready(turns)) == 0) {
         struct nippersage_task sleeper = {turns->kernel, turns->seats->caller, 1};
         int64_t result = 0;
-        if (!kernel_go_on(sleeper, &result)) result = -EDEADLK;
+        if (!kernel_go_on(sleeper, &result)) {
+            kernel_end_waits(turns->kernel);
+            result = -EDEADLK;
+        }
         if (result < 0)
             for (struct seat *seat = turns->seats; seat; seat = seat->next) seat->status = (int)result;
     }

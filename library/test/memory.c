@@ -105,6 +105,27 @@ static void explore_without_memory(const struct example *example, const struct n
     IS(explores(example, options, wanted, first), wanted);
 }
 
+/* A wait that nothing can end, beside one by hand. Its caller has left, or is parked as before, and no eventfd is left
+   behind in any case. */
+static void deadlock(struct nippersage_kernel *kernel) {
+    struct nippersage_task one = {kernel, 1, 1}, two = {kernel, 2, 1};
+    struct nippersage_waiter waiters[2];
+    struct epoll_event found[8];
+    int ep = nippersage_epoll_create1(one, 0), count;
+    if (ep == -ENOMEM) ep = nippersage_epoll_create1(one, 0);
+    AGAIN(nippersage_wait_start(two, ep, found, 8, -1), NIPPERSAGE_PARKED);
+    AGAIN(nippersage_epoll_wait(one, ep, found, 8, -1), -EDEADLK);
+    count = nippersage_deadlock(kernel, waiters, 2);
+    IS(count == 2 || failed > 0, 1);
+    if (nippersage_is_parked(kernel, 1) == 1) {
+        IS(failed > 0, 1);
+        AGAIN(nippersage_resume(one, found, 8), NIPPERSAGE_PARKED);
+    } else {
+        AGAIN(nippersage_eventfd(one, 0, 0), ep + 1);
+    }
+    AGAIN(nippersage_check(kernel), 0);
+}
+
 /* A task that goes on whatever its call answers. */
 static int looks(struct nippersage_task task, void *shared) {
     struct epoll_event event;
@@ -133,6 +154,7 @@ int main(void) {
         left = turn++;
         AGAIN(nippersage_open(NULL, &kernel), 0);
         calls(kernel);
+        deadlock(kernel);
         left = -1;
         nippersage_free(kernel);
     } while (failed > 0);

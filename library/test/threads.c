@@ -106,7 +106,7 @@ static void *waits_in_vain(void *argument) {
     struct pair *pair = argument;
     struct epoll_event found;
     IS(nippersage_epoll_wait(pair->reader, pair->ep, &found, 1, -1), -EDEADLK);
-    IS(nippersage_resume(pair->reader, &found, 1), NIPPERSAGE_PARKED);
+    IS(nippersage_resume(pair->reader, &found, 1), -EINVAL);
     IS(nippersage_tasks(kernel, -1), 0);
     return NULL;
 }

@@ -130,9 +130,10 @@ class Task:
 
         Other threads may use the kernel meanwhile. As soon as all that are inside of a call sleep in such waits, the
         clock goes on to the next moment at which something happens. So a wait for an hour comes back at once if nobody
-        does anything. EDEADLK if nothing can end it, and its text says who waits at what: then the caller is still
-        parked. A thread that is between two calls is waited for if it takes part (`Kernel.take_part`). It needs the
-        library.
+        does anything. EDEADLK if nothing can end it, and its text says who waited at what. Then the caller is not
+        parked any more: the library has ended its wait by events of its own, which are in the history. Only if its
+        instance is ready, or there is no room for an eventfd, it is still parked, and ends its wait by `resume`. A
+        thread that is between two calls is waited for if it takes part (`Kernel.take_part`). It needs the library.
         """
         who = self._who(by, pid)
         return masked(self._backend.epoll_wait(who, number("ep", ep), number("max", max), _timeout(timeout)))
@@ -322,6 +323,10 @@ class Kernel(Task):
         A caller counts until its wait was resumed.
         """
         return self._backend.waiters()
+
+    def deadlock(self) -> List[Waiter]:
+        """Those that were parked when EDEADLK was last raised, with their waits. Nobody if it never was."""
+        return self._backend.deadlock()
 
     def watches(self, ep: int, *, pid: Optional[int] = None) -> List[Watch]:
         """The registrations of the instance that a number names, in the order in which they were added.

@@ -113,6 +113,7 @@ _TAKEN: Dict[str, Tuple[Any, ...]] = {
     "is_parked": (c_void_p, c_uint32),
     "is_marked": (c_void_p, c_uint32),
     "waiters": (c_void_p, c_void_p, c_int),
+    "deadlock": (c_void_p, c_void_p, c_int),
     "watches": (Who, c_int, c_void_p, c_int),
     "watches_awaited": (c_void_p, c_uint32, c_void_p, c_int),
     "shutdown": (Who, c_int, c_int),
@@ -243,13 +244,26 @@ class Library:
         raise refusal(-result)
 
     def _deadlock(self) -> str:
-        """What EDEADLK says: who waits at what, and what is registered there."""
-        told = _some([self._told(it) for it in self.waiters()], "more wait")
+        """What EDEADLK says: who waited at what, and what is registered there."""
+        told = _some([self._told(it) for it in self.deadlock()], "more wait")
         return f"EDEADLK: no event can end the waits: {'; '.join(told)}"
 
     def _told(self, waiter: Waiter) -> str:
-        watched = ", ".join(_some([str(it) for it in self.watches_awaited(waiter.by)], "more are registered"))
+        registered = self._awaited(waiter)
+        if registered is None:
+            return str(waiter)
+        watched = ", ".join(_some([str(it) for it in registered], "more are registered"))
         return f"{waiter}: {watched}" if watched else f"{waiter}, and nothing is registered there"
+
+    def _awaited(self, waiter: Waiter) -> Optional[List[Watch]]:
+        """What is registered where somebody waited, by the number of the instance once it waits no more. None if that
+        number is gone, too."""
+        for ask in (lambda: self.watches_awaited(waiter.by), lambda: self.watches(self.who(0, waiter.pid), waiter.ep)):
+            try:
+                return ask()
+            except OSError:
+                pass
+        return None
 
     def pipe(self, who: Who, cloexec: bool) -> Tuple[int, int]:
         ends = (c_int * 2)()
@@ -409,6 +423,10 @@ class Library:
     def waiters(self) -> List[Waiter]:
         pointer = self._pointer()
         return [_waiter(it) for it in self._all(_Waiter, lambda room, most: self._f.waiters(pointer, room, most))]
+
+    def deadlock(self) -> List[Waiter]:
+        pointer = self._pointer()
+        return [_waiter(it) for it in self._all(_Waiter, lambda room, most: self._f.deadlock(pointer, room, most))]
 
     def watches(self, who: Who, ep: int) -> List[Watch]:
         return [_watch(it) for it in self._all(_Watch, lambda room, most: self._f.watches(who, ep, room, most))]

@@ -128,7 +128,7 @@ _MOST_PORT = 65_535
 
 
 class Waiter(NamedTuple):
-    """A parked caller, and its wait, as `Kernel.waiters` tells it."""
+    """A parked caller, and its wait, as `Kernel.waiters` and `Kernel.deadlock` tell it."""
 
     by: int
     pid: int

@@ -41,8 +41,8 @@ AUDITOR = _find("epaudit", "NIPPERSAGE_EPAUDIT")
 
 #: What a program can't be asked.
 _OF_THE_LIBRARY = {
-    "epoll_wait", "next_moment", "first_marked", "is_parked", "is_marked", "waiters", "tasks", "reserve", "history",
-    "last_history", "check",
+    "epoll_wait", "next_moment", "first_marked", "is_parked", "is_marked", "waiters", "deadlock", "tasks", "reserve",
+    "history", "last_history", "check",
 }
 
 Who = Dict[str, int]

@@ -649,11 +649,27 @@ class OverLibrary(Calls, Refusals):
                 " nothing is registered there; caller 0 waits at instance 4 without a timeout, and nothing is registered"
                 " there"
             ))
-            self.assertTrue(kernel.is_parked(0))
-            self.assertEqual(kernel.waiters(), [(7, 1, instance, 3, None), (0, 1, instance, 8, None)])
+            self.assertEqual(kernel.deadlock(), [(7, 1, instance, 3, None), (0, 1, instance, 8, None)])
+            self.assertEqual(kernel.waiters(), [(7, 1, instance, 3, None)])
             self.assertIsNone(kernel.wait(instance, timeout=0.25, by=8))
-            self.assertEqual(kernel.waiters()[2:], [(8, 1, instance, 8, 0.25)])
-            self.assertIsNone(kernel.resume())
+            self.assertEqual(kernel.waiters()[1:], [(8, 1, instance, 8, 0.25)])
+            self.expect_refusal(errno.EINVAL, kernel.resume)
+            kernel.add(instance, kernel.eventfd(1), IN, data=9)
+            self.assertEqual(kernel.epoll_wait(instance), [(IN, 9)])
+            self.assertEqual(kernel.resume(by=7), [(IN, 9)])
+            kernel.check()
+
+    def test_a_deadlock_of_what_is_closed(self):
+        """Where the number of the instance is gone, it tells who waits, and the wait stays."""
+        with Kernel() as kernel:
+            kernel.wait(kernel.epoll(), timeout=None, by=7)
+            kernel.close(3)
+            kernel.add(kernel.epoll(), kernel.pipe()[0], IN)
+            with self.assertRaises(OSError) as caught:
+                kernel.epoll_wait(3)
+            told = "caller 7 waits at instance 3 without a timeout, and nothing is registered there; caller 0 waits at"
+            self.assertIn(told, str(caught.exception))
+            self.assertEqual([it.by for it in kernel.waiters()], [7])
 
     def test_a_deadlock_of_many(self):
         """Of more callers than eight it tells how many they are."""

@@ -247,6 +247,7 @@ extern "C" {
     pub fn nippersage_is_parked(kernel: *mut Kernel, caller: u32) -> c_int;
     pub fn nippersage_is_marked(kernel: *mut Kernel, caller: u32) -> c_int;
     pub fn nippersage_waiters(kernel: *mut Kernel, waiters: *mut Waiter, room: c_int) -> c_int;
+    pub fn nippersage_deadlock(kernel: *mut Kernel, waiters: *mut Waiter, room: c_int) -> c_int;
 
     pub fn nippersage_watches(task: Task, epfd: c_int, watches: *mut Watch, room: c_int) -> c_int;
     pub fn nippersage_watches_awaited(

@@ -1,6 +1,7 @@
 //! A kernel, and what is asked of it rather than of one of its tasks.
 
 use crate::errno::checked;
+use crate::watch::all;
 use crate::{ffi, time, Errno, Fd, Pid, Task};
 use std::ffi::CStr;
 use std::io::{self, Write};
@@ -71,7 +72,7 @@ impl Limits {
     }
 }
 
-/// A parked caller, and its wait, as [`Kernel::waiters`] tells it.
+/// A parked caller, and its wait, as [`Kernel::waiters`] and [`Kernel::deadlock`] tell it.
 #[derive(Clone, Copy, Debug, PartialEq, Eq)]
 pub struct Waiter {
     /// The number of the caller.
@@ -176,21 +177,18 @@ impl Kernel {
     }
 
     /// The parked callers with their waits, the one that was parked first at the beginning. A caller
-    /// counts until its wait was resumed. After EDEADLK it tells who waits at what.
+    /// counts until its wait was resumed.
     pub fn waiters(&self) -> Vec<Waiter> {
-        let mut room = Vec::new();
-        loop {
-            let most = c_int::try_from(room.capacity()).unwrap_or(c_int::MAX);
-            // SAFETY: the kernel lives, and there is room for so many.
-            let count = unsafe { ffi::nippersage_waiters(self.raw(), room.as_mut_ptr(), most) };
-            let count = usize::try_from(count).unwrap_or_default();
-            if count <= room.capacity() {
-                // SAFETY: so many were written.
-                unsafe { room.set_len(count) };
-                return room.into_iter().map(Waiter::from).collect();
-            }
-            room.reserve_exact(count);
-        }
+        // SAFETY: the kernel lives, and there is room for so many.
+        let waiters = all(|room, most| unsafe { ffi::nippersage_waiters(self.raw(), room, most) });
+        waiters.unwrap_or_default()
+    }
+
+    /// Those that were parked when EDEADLK was last answered, with their waits. Nobody if it never was.
+    pub fn deadlock(&self) -> Vec<Waiter> {
+        // SAFETY: as in `waiters`.
+        let waiters = all(|room, most| unsafe { ffi::nippersage_deadlock(self.raw(), room, most) });
+        waiters.unwrap_or_default()
     }
 
     /// Says that one thread more takes part, until what comes back is dropped.

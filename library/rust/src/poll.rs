@@ -230,8 +230,8 @@ impl<'k> Poll<'k> {
     /// Waits until something is ready or the time has passed, and fills `events`. It takes no time:
     /// the clock goes on by itself, as with [`Task::epoll_wait`]. `None` has no end.
     ///
-    /// EINVAL if there is no room. EDEADLK if nothing can end the wait; then the caller is still
-    /// parked. After an error there are no events.
+    /// EINVAL if there is no room. EDEADLK if nothing can end the wait; then the caller
+    /// may wait again. After an error there are no events.
     pub fn poll(&mut self, events: &mut Events, timeout: Option<Duration>) -> Result<(), Errno> {
         events.clear();
         let Registry { task, instance } = &self.registry;

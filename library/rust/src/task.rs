@@ -566,10 +566,12 @@ impl Task<'_> {
     /// kernel sleep in such waits, the clock goes on to the next moment at which something happens.
     /// So a wait for an hour comes back at once if nobody does anything.
     ///
-    /// EBADF, EINVAL. EDEADLK if nothing can end the wait: [`Kernel::waiters`] tells who waits at
-    /// what, and [`Kernel::watches_awaited`] what is registered there. Then the caller is still parked,
-    /// and ends its wait by [`resume`](Task::resume). A thread that is between two calls is waited for if
-    /// it [takes part](Kernel::take_part).
+    /// EBADF, EINVAL. EDEADLK if nothing can end the wait: [`Kernel::deadlock`] tells who waited at
+    /// what, and [`Task::watches`] what is registered there. Then the caller is not parked any more: the
+    /// library has ended its wait by events of its own, which are in the history. Only if its instance
+    /// is ready, or there is no room for an eventfd, it is still parked, and ends its wait by
+    /// [`resume`](Task::resume). A thread that is between two calls is waited for if it
+    /// [takes part](Kernel::take_part).
     pub fn epoll_wait(
         self,
         epfd: impl Into<Fd>,

@@ -43,15 +43,15 @@ impl From<ffi::Watch> for Watch {
 }
 
 /// All that is told. `ask` fills room, and answers how many there are, or an error.
-fn all(ask: impl Fn(*mut ffi::Watch, c_int) -> c_int) -> Result<Vec<Watch>, Errno> {
-    let mut room: Vec<ffi::Watch> = Vec::new();
+pub(crate) fn all<R, T: From<R>>(ask: impl Fn(*mut R, c_int) -> c_int) -> Result<Vec<T>, Errno> {
+    let mut room: Vec<R> = Vec::new();
     loop {
         let most = c_int::try_from(room.capacity()).unwrap_or(c_int::MAX);
         let count = checked(ask(room.as_mut_ptr(), most))? as usize;
         if count <= room.capacity() {
             // SAFETY: so many were written.
             unsafe { room.set_len(count) };
-            return Ok(room.into_iter().map(Watch::from).collect());
+            return Ok(room.into_iter().map(T::from).collect());
         }
         room.reserve_exact(count);
     }
@@ -86,8 +86,7 @@ impl Task<'_> {
 
 impl Kernel {
     /// The registrations of the instance at which a caller is parked, whether a descriptor still
-    /// names it or not. After EDEADLK it tells what a waiter waits for. EINVAL if the caller isn't
-    /// parked, ENOMEM.
+    /// names it or not. EINVAL if the caller isn't parked, ENOMEM.
     pub fn watches_awaited(&self, caller: u32) -> Result<Vec<Watch>, Errno> {
         // SAFETY: as in `Task::watches`.
         all(|room, most| unsafe {

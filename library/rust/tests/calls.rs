@@ -863,7 +863,7 @@ fn waits_by_themselves() {
         task.epoll_wait(instance, &mut events, None),
         Err(Errno::EDEADLK)
     );
-    assert!(kernel.is_parked(0));
+    assert!(!kernel.is_parked(0));
     let endless = Waiter {
         caller: 0,
         pid: Pid::FIRST,
@@ -871,7 +871,12 @@ fn waits_by_themselves() {
         most: 2,
         timeout: None,
     };
-    assert_eq!(kernel.waiters(), [endless]);
+    assert_eq!(kernel.deadlock(), [endless]);
+    assert_eq!(kernel.waiters(), []);
+    assert_eq!(
+        task.wait_start(instance, &mut events, None),
+        Ok(Poll::Pending)
+    );
     let thread = kernel.task(7);
     assert_eq!(
         thread.wait_start(instance, &mut events[..1], Some(Duration::from_nanos(1))),

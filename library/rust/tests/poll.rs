@@ -97,7 +97,8 @@ fn timeouts() {
     assert!(events.is_empty());
     assert_eq!(kernel.now(), hour);
     assert_eq!(poll.poll(&mut events, None), Err(Errno::EDEADLK));
-    assert_eq!(kernel.waiters().len(), 1);
+    assert_eq!(kernel.waiters().len(), 0);
+    assert_eq!(poll.poll(&mut events, Some(hour)), Ok(()));
 }
 
 #[test]
