@@ -152,7 +152,10 @@ class _Functions:
     def __init__(self, path: str) -> None:
         library = ctypes.CDLL(path)
         for name, taken in _TAKEN.items():
-            function = getattr(library, "nippersage_" + name)
+            try:
+                function = getattr(library, "nippersage_" + name)
+            except AttributeError:
+                raise ImportError(f"{path} has no nippersage_{name}: it is older than this package") from None
             function.argtypes = taken
             function.restype = _ANSWERED.get(name, c_int)
             setattr(self, name, function)

@@ -922,6 +922,11 @@ class Missing(unittest.TestCase):
         told = run_anew("import nippersage; nippersage.Kernel()", NIPPERSAGE_LIB="/none/libnippersage.so")
         self.assertIn(b"OSError: /none/libnippersage.so: cannot open shared object file", told.stderr)
 
+    @unittest.skipIf(sys.platform != "linux", "there is no libm.so.6")
+    def test_a_library_without_a_function(self):
+        told = run_anew("import nippersage; nippersage.Kernel()", NIPPERSAGE_LIB="libm.so.6")
+        self.assertIn(b"ImportError: libm.so.6 has no nippersage_open: it is older than this package", told.stderr)
+
 
 class Histories:
     """What epaudit says of the history of a short run."""
