@@ -42,7 +42,10 @@ _RANGES = {
     **dict.fromkeys(("ep", "fd", "to", "max", "clock", "backlog"), _INT),
     **dict.fromkeys(("by", "init", "mask"), _UINT),
     **dict.fromkeys(("pid", "data", "value", "interval"), _ULONG),
+    "timeout": (-(1 << 63), (1 << 63) - 1),
 }
+#: The same of a byte that is written over and over, and of how often.
+_FILL = ((0, 255), (0, 1_048_576))
 #: The words that a key may have.
 _WORDS = {"how": ("rd", "wr", "rdwr"), "family": ("tcp", "unix"), "space": ("v4", "v6", "local")}
 
@@ -91,15 +94,19 @@ def audit(history, limits=None, program=None):
     return int(place[1])
 
 
+def _is_within(value, of):
+    return isinstance(value, int) and of[0] <= value <= of[1]
+
+
 def _unfit(keys):
     """Of the keys of a call those whose values don't fit, or all if no range and no word tells which."""
-    ranges = {**_RANGES, "name": _UINT if keys.get("space") == "local" else (0, 65_535)}
+    name = _UINT if keys.get("space") == "local" else (0, 65_535)
+    ranges = {**_RANGES, "name": name, "n": _UINT if "fd" in keys else _ULONG}
     unfit = {}
     for key, value in keys.items():
-        least, most = ranges.get(key, (None, None))
-        if least is not None and not (isinstance(value, int) and least <= value <= most):
-            unfit[key] = value
-        if key in _WORDS and value not in _WORDS[key]:
+        is_out = key in ranges and not _is_within(value, ranges[key])
+        is_no_word = key in _WORDS and value not in _WORDS[key]
+        if is_out or is_no_word or (key == "fill" and not all(map(_is_within, value, _FILL))):
             unfit[key] = value
     return ", ".join(f"{key}: {value!r}" for key, value in (unfit or keys).items())
 
@@ -195,7 +202,10 @@ class Kernel:
             pass
         answer = self._program.stdout.readline()
         if not answer.endswith(b"\n"):
-            raise Ended(f"the program ended with status {self._program.wait()}")
+            status = self._program.wait()
+            # It says so of bad limits, for example, and of a history that can't be written.
+            why = ", and standard error says why" if status > 0 else ""
+            raise Ended(f"the program ended with status {status}{why}")
         return answer
 
     def _call(self, op, **keys):

@@ -28,6 +28,10 @@
 #include <time.h>
 #include <unistd.h>
 
+#ifndef F_DUPFD_CLOEXEC
+#error "nippersage_client.h needs POSIX.1-2008: compile as GNU C, or define _POSIX_C_SOURCE as 200809L before the first include"
+#endif
+
 enum {
     NIPPERSAGE_IN = 1, NIPPERSAGE_PRI = 2, NIPPERSAGE_OUT = 4, NIPPERSAGE_ERR = 8,
     NIPPERSAGE_HUP = 16, NIPPERSAGE_RDHUP = 8192

@@ -349,6 +349,11 @@ class Client(unittest.TestCase):
                 (kernel.connect, (3, ("local", -1)), "name: -1"),
                 (kernel.listen, (3, 1 << 31), "backlog: 2147483648"),
                 (kernel.accept, (-(1 << 31) - 1,), "fd: -2147483649"),
+                (kernel.read, (3, -1), "n: -1"),
+                (kernel.peek, (3, 1 << 32), "n: 4294967296"),
+                (kernel.fill, (3, 256, 1), "fill: [256, 1]"),
+                (kernel.fill, (3, 1, 1_048_577), "fill: [1, 1048577]"),
+                (kernel.tick, (1 << 70,), f"n: {(1 << 70) * 1_000_000}"),
             ):
                 with self.assertRaises(ValueError) as caught:
                     call(*words)
