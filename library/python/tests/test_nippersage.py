@@ -30,7 +30,11 @@ from nippersage._numbers import seconds, units
 
 
 def runs(program):
-    """Whether there is such a program."""
+    """Whether there is such a program, and built. At the top of the repository is a script of its name, which would
+    prove it first, for many minutes."""
+    top, name = os.path.split(os.path.abspath(program))
+    if os.path.isfile(os.path.join(top, "crates.txt")):
+        program = os.path.join(top, "crates", name, "out", name)
     return os.path.isfile(program) and os.access(program, os.X_OK)
 
 
