@@ -178,7 +178,7 @@ class Kernel:
         The times of both are in microseconds."""
         line = json.dumps({"op": op, **{k: v for k, v in keys.items() if v is not None}}).encode()
         if self._program.poll() is not None or self._program.stdin.closed:
-            raise Ended(f"the program ended with status {self._program.returncode}")
+            raise self._ended()
         if len(line) > LONGEST_LINE:
             raise ValueError(f"a line has at most {LONGEST_LINE} bytes, and this call takes {len(line)}")
         if self.calls == MOST_CALLS:
@@ -202,11 +202,14 @@ class Kernel:
             pass
         answer = self._program.stdout.readline()
         if not answer.endswith(b"\n"):
-            status = self._program.wait()
-            # It says so of bad limits, for example, and of a history that can't be written.
-            why = ", and standard error says why" if status > 0 else ""
-            raise Ended(f"the program ended with status {status}{why}")
+            raise self._ended()
         return answer
+
+    def _ended(self):
+        """That the program runs no more. It names limits out of their range, and a history that it can't write."""
+        status = self._program.wait()
+        why = ", and standard error says why" if status > 0 else ""
+        return Ended(f"the program ended with status {status}{why}")
 
     def _call(self, op, **keys):
         answer = self.ask(op, **keys)

@@ -334,6 +334,13 @@ class Client(unittest.TestCase):
             {"op": "accept", "fd": fd, "cloexec": False},
         ])
 
+    def test_limits_out_of_range(self):
+        with Kernel(limits=(2, 64, 4, 64, 4_096, 4_096)) as kernel:
+            for _ in range(2):
+                with self.assertRaises(Ended) as caught:
+                    kernel.pipe()
+                self.assertEqual(str(caught.exception), "the program ended with status 2, and standard error says why")
+
     def test_what_is_no_call(self):
         with Kernel() as kernel:
             for call, words, key in (
