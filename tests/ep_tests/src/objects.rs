@@ -6,7 +6,7 @@ use ep_base::End::{First, Second};
 use ep_base::{
     Answer, Buffer, Call, End, Errno, Family, Fd, How, Mask, Moment, Name, Raised, Space, Span,
 };
-use ep_object::{Object, ObjectCall};
+use ep_object::{NamingCall, Object, ObjectCall};
 use std::alloc::{AllocError, Global};
 use std::process::Abort;
 use std::test::Fail;
@@ -29,7 +29,7 @@ fn ask(
     now: Moment,
     call: &Call,
 ) -> Result<(Answer, Raised), AllocError> {
-    let (_, asked) = ObjectCall::of(call, None).ok_or(AllocError)?;
+    let (_, asked) = ObjectCall::of(call).ok_or(AllocError)?;
     object.apply(end, now, &asked)
 }
 
@@ -39,13 +39,13 @@ fn ask_with(
     call: &Call,
     found: Option<Name>,
 ) -> Result<(Answer, Raised), AllocError> {
-    let (_, asked) = ObjectCall::of(call, found).ok_or(AllocError)?;
-    socket.apply(First, at(0), &asked)
+    let (_, asked) = NamingCall::of(call, found, false);
+    Ok(socket.apply_naming(&asked))
 }
 
 /// How many bytes a call at the first end could give.
 fn waiting(object: &Object, call: &Call) -> Result<usize, AllocError> {
-    let (_, asked) = ObjectCall::of(call, None).ok_or(AllocError)?;
+    let (_, asked) = ObjectCall::of(call).ok_or(AllocError)?;
     Ok(object.waiting(First, &asked))
 }
 
@@ -113,26 +113,26 @@ fn bind(name: Name) -> Call {
     Call::Bind { fd: Fd(3), name }
 }
 
+fn listen(backlog: i32) -> Call {
+    Call::Listen { fd: Fd(3), backlog }
+}
+
 fn connect(name: Name) -> Call {
     Call::Connect { fd: Fd(3), name }
 }
 
-/// Only a socket answers a peek, a shutdown, what asks for its error or a name, a bind and a connect.
+/// Only a socket answers a peek, a shutdown, what asks for its error or a name, a bind, a listen and a connect.
 #[test]
 fn only_a_socket_answers(rt: HostRuntime) -> Result<(), Fail> {
     let mut pipe = Object::pipe(rt.alloc(), 4_096)?;
     ask(&mut pipe, Second, at(0), &write(rt.alloc())?)?;
     assert!(rt; waiting(&pipe, &PEEK)? == 0 && waiting(&pipe, &read(64))? == 20);
-    for call in [
-        PEEK,
-        SHUTDOWN,
-        ERROR,
-        OWN_NAME,
-        PEER_NAME,
-        bind(PORT),
-        connect(PORT),
-    ] {
+    for call in [PEEK, SHUTDOWN, ERROR, OWN_NAME, PEER_NAME] {
         let (refused, _) = ask(&mut pipe, First, at(0), &call)?;
+        assert!(rt; refused == Answer::Refused(Errno::Enotsock));
+    }
+    for call in [bind(PORT), listen(4), connect(PORT)] {
+        let (refused, _) = ask_with(&mut pipe, &call, Some(PORT))?;
         assert!(rt; refused == Answer::Refused(Errno::Enotsock));
     }
     Ok(())
@@ -237,19 +237,44 @@ fn a_unix_connect_is_refused(rt: HostRuntime) -> Result<(), Fail> {
     Ok(())
 }
 
-/// Whether a call takes a name, where one was found and where none was.
-fn takes(call: &Call) -> Result<(bool, bool), AllocError> {
-    let (_, found) = ObjectCall::of(call, Some(PORT)).ok_or(AllocError)?;
-    let (_, none) = ObjectCall::of(call, None).ok_or(AllocError)?;
-    Ok((found.takes_name(), none.takes_name()))
+/// What a call of one kind or of the other is taken apart into.
+#[test]
+fn binds_listens_and_connects_go_their_own_way(rt: HostRuntime) -> Result<(), Fail> {
+    for call in [bind(PORT), listen(4), connect(PORT)] {
+        assert!(rt; NamingCall::is(&call) && ObjectCall::of(&call).is_none());
+    }
+    assert!(rt; !NamingCall::is(&OWN_NAME) && ObjectCall::of(&OWN_NAME).is_some());
+    Ok(())
 }
 
+/// A TCP socket without a name gets the one that was found, and shows nothing any more.
 #[test]
-fn binds_and_connects_take_names(rt: HostRuntime) -> Result<(), Fail> {
-    for call in [bind(PORT), connect(PORT)] {
-        assert!(rt; takes(&call)? == (true, false));
-    }
-    assert!(rt; takes(&OWN_NAME)? == (false, false));
+fn a_socket_comes_to_listen(rt: HostRuntime) -> Result<(), Fail> {
+    let mut socket = Object::socket(rt.alloc(), Family::Tcp);
+    let (refused, _) = ask_with(&mut socket, &listen(4), None)?;
+    assert!(rt; refused == Answer::Refused(Errno::Eaddrinuse) && !socket.is_listener());
+    let call = listen(4);
+    let (_, asked) = NamingCall::of(&call, Some(PORT), false);
+    assert!(rt; socket.gains(&asked) == Some(PORT));
+    let (done, raised) = ask_with(&mut socket, &call, Some(PORT))?;
+    assert!(rt; done == Answer::Done && raised.first == Mask(0));
+    assert!(rt; socket.is_listener() && socket.is_socket() && socket.name() == Some(PORT));
+    assert!(rt; socket.present(First, at(0)) == Mask(0));
+    let (again, _) = ask_with(&mut socket, &listen(-1), None)?;
+    let (connected, _) = ask_with(&mut socket, &connect(PORT), None)?;
+    assert!(rt; again == Answer::Done && connected == Answer::Refused(Errno::Eisconn));
+    Ok(())
+}
+
+/// Nobody gets through to a listener yet.
+#[test]
+fn a_heard_connect_is_refused(rt: HostRuntime) -> Result<(), Fail> {
+    let mut socket = Object::socket(rt.alloc(), Family::Tcp);
+    let call = connect(PORT);
+    let (_, asked) = NamingCall::of(&call, Some(PORT), true);
+    assert!(rt; socket.gains(&asked) == None);
+    let (refused, _) = socket.apply_naming(&asked);
+    assert!(rt; refused == Answer::Refused(Errno::Einval) && socket.name() == None);
     Ok(())
 }
 

@@ -95,7 +95,7 @@ fn expires(rt: &impl Abort, tables: &mut Tables, desc: DescId) -> Result<(), All
         value: Span(5),
         interval: Span(0),
     };
-    let (_, asked) = ObjectCall::of(&set, None).ok_or(AllocError)?;
+    let (_, asked) = ObjectCall::of(&set).ok_or(AllocError)?;
     tables.apply(desc, at(0), &asked)?;
     assert!(rt; tables.lookup(FIRST, Fd(3)) == Some(desc));
     assert!(rt;
