@@ -44,6 +44,13 @@ fn shut(fd: i32, how: How) -> Call {
     Call::Shutdown { fd: Fd(fd), how }
 }
 
+fn tcp_socket() -> Call {
+    Call::Socket {
+        family: Family::Tcp,
+        cloexec: false,
+    }
+}
+
 /// The calls that only sockets answer, on one descriptor.
 fn asks_of(fd: i32) -> [Call; 5] {
     let fd = Fd(fd);
@@ -59,10 +66,7 @@ fn asks_of(fd: i32) -> [Call; 5] {
 /// The calls that make and connect sockets: two on end 3 of a pair, two on numbers that name nothing, and one on none.
 fn of_connecting() -> [Call; 5] {
     [
-        Call::Socket {
-            family: Family::Tcp,
-            cloexec: false,
-        },
+        tcp_socket(),
         Call::Bind {
             fd: Fd(3),
             name: PORT,
@@ -318,11 +322,7 @@ impl Script for Connects {
         rt: &R,
         mut kernel: K,
     ) -> Result<(), AllocError> {
-        let socket = Call::Socket {
-            family: Family::Tcp,
-            cloexec: false,
-        };
-        assert!(rt; call(&mut kernel, socket) == Answer::Num(3));
+        assert!(rt; call(&mut kernel, tcp_socket()) == Answer::Num(3));
         assert!(rt; call(&mut kernel, connect(3)) == Answer::Connecting);
         assert!(rt; call(&mut kernel, own_name(3)) == Answer::Named(Some(GIVEN)));
         assert!(rt; call(&mut kernel, Call::TakeError { fd: Fd(3) }) == Answer::Num(111));
@@ -365,11 +365,7 @@ impl Script for Binds {
         mut kernel: K,
     ) -> Result<(), AllocError> {
         for number in [3, 4] {
-            let socket = Call::Socket {
-                family: Family::Tcp,
-                cloexec: false,
-            };
-            assert!(rt; call(&mut kernel, socket) == Answer::Num(number));
+            assert!(rt; call(&mut kernel, tcp_socket()) == Answer::Num(number));
         }
         assert!(rt; call(&mut kernel, bind(3)) == Answer::Done);
         assert!(rt; call(&mut kernel, own_name(3)) == Answer::Named(Some(PORT)));
@@ -412,11 +408,7 @@ impl Script for Listens {
         mut kernel: K,
     ) -> Result<(), AllocError> {
         for number in [3, 4] {
-            let socket = Call::Socket {
-                family: Family::Tcp,
-                cloexec: false,
-            };
-            assert!(rt; call(&mut kernel, socket) == Answer::Num(number));
+            assert!(rt; call(&mut kernel, tcp_socket()) == Answer::Num(number));
         }
         for backlog in [5, -1, 100_000] {
             assert!(rt; call(&mut kernel, listen(3, backlog)) == Answer::Done);
@@ -450,11 +442,7 @@ impl Script for Heard {
         mut kernel: K,
     ) -> Result<(), AllocError> {
         for number in [3, 4] {
-            let socket = Call::Socket {
-                family: Family::Tcp,
-                cloexec: false,
-            };
-            assert!(rt; call(&mut kernel, socket) == Answer::Num(number));
+            assert!(rt; call(&mut kernel, tcp_socket()) == Answer::Num(number));
         }
         assert!(rt; call(&mut kernel, bind(3)) == Answer::Done);
         assert!(rt; call(&mut kernel, listen(3, 1)) == Answer::Done);
