@@ -119,8 +119,8 @@ pub enum Call {
     },
     /// bind(2): gives a socket a name, which it keeps until it dies. Number 0 asks for any: the lowest from 32,768 to
     /// 60,999 that is free in that space. Answered by `Answer::Done`. EBADF, ENOTSOCK, EAFNOSUPPORT (TCP) or EINVAL
-    /// (Unix) for a name of the other family, EINVAL if it has a name or a connection or its connect failed, EADDRINUSE
-    /// if the name is taken or none is free.
+    /// (Unix) for a name of the other family, EINVAL if it has a name or a connection, or its connect failed and no
+    /// further one told so, EADDRINUSE if the name is taken or none is free.
     Bind {
         fd: Fd,
         name: Name,
@@ -128,8 +128,8 @@ pub enum Call {
     /// listen(2): from now on the socket listens, and `backlog` + 1 connections may wait there, of which at most
     /// 4,097. A negative number asks for the most. A TCP socket without a name gets one of IPv4, as by a bind to
     /// number 0. A listener that listens again changes how many may wait. Answered by `Answer::Done`. EBADF, ENOTSOCK,
-    /// EINVAL if it has a connection, its connect failed, or it is a Unix socket without a name, EADDRINUSE if no name
-    /// is free.
+    /// EINVAL if it has a connection, its connect failed and no further one told so, or it is a Unix socket without a
+    /// name, EADDRINUSE if no name is free.
     Listen {
         fd: Fd,
         backlog: i32,
