@@ -17,7 +17,7 @@ use Rattle.ep_law.proofs.RaiseLemmas.{live_member, lived_before}
 use Rattle.ep_machine.specs.Deaths.{die, die_all, kept_object}
 use Rattle.ep_machine.specs.Files.{Files, Place, is_live, live, object_at, place_of}
 use Rattle.ep_machine.specs.Lists.{is_among}
-use Rattle.ep_machine.specs.Objects.{Object, close_end, plain}
+use Rattle.ep_machine.specs.Objects.{Object, close_end, plain, is_waiting}
 use Rattle.ep_machine.specs.Timer.{Timer}
 use Rattle.ep_alarms.proofs.SetLemmas.{some_none}
 use Rattle.ep_alarms.specs.Alarms.{AreSet, IsSetFor, LosesDying}
@@ -45,7 +45,7 @@ module _ (f : Files) (raised : List (ℕ × ℕ)) (x : ℕ × Place) where
   g = (die (f, raised) x).0
 
   kept : (d : ℕ) (p : Place) → place_of g d ≡ Some p → p.object ≡ k → kept_object rest k closed ≡ Some closed
-  kept d p here at = ap (λ (b : Bool). if b then Some closed else None) (any_has (λ (y : ℕ × Place). y.1.object == k) (live rest) (d, p) (live_member rest d p here) (same_test p.object k at))
+  kept d p here at = ap (λ (b : Bool). if b || is_waiting closed then Some closed else None) (any_has (λ (y : ℕ × Place). y.1.object == k) (live rest) (d, p) (live_member rest d p here) (same_test p.object k at))
 
   same_there : (d : ℕ) (p : Place) → place_of g d ≡ Some p → p.object ≡ k → timer_there g k ≡ timer_there f k
   same_there d p here at = elim (cases_lt k (length f.objects)) [

@@ -151,7 +151,7 @@ module _ (p q : Parts) (a : Moments) (sound : SoundTables p.tables) (sound_now :
   others_set limits pid busy call answer is does =
       by_call (files_call limits p.tables.files pid busy call) answer p.tables q.tables does
       (λ e refuses. refused_set refuses.tables)
-      (λ accepted done. left_set (λ d. ap (λ (f : Files). timer_in f d) done.files ∙ others_left limits p.tables.files pid busy call have_objects is d))
+      (λ accepted done. left_set (λ d. ap (λ (f : Files). timer_in f d) done.files ∙ others_left limits p.tables.files pid busy call have_objects sound.quiet is d))
 
   -- a call on the object that a descriptor names
   module _ (ends : HaveOwnEnds p.tables.files) (pid : ℕ) (fd : Fd) (asked : ObjectCall) (answer : Answer) where

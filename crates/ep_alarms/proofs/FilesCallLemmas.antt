@@ -5,17 +5,20 @@ use Rattle.std.proofs.lemmas.Bool.{cases_eq, cases_lt}
 use Rattle.std.proofs.lemmas.List.{get_or_append_left, get_or_past}
 use Rattle.ep_base.specs.Limits.{Limits}
 use Rattle.ep_base.specs.declared.call.Call.{Call}
-use Rattle.ep_base.specs.declared.call.Call.TheVariants.{Dup2, EpollCreate, EventFd, Pipe as PipeCall, Plain, Socket, SocketPair, TimerFd}
+use Rattle.ep_base.specs.declared.call.Call.TheVariants.{Accept, Close, Dup2, EpollCreate, EventFd, Exec, Exit, Pipe as PipeCall, Plain, Socket, SocketPair, TimerFd}
 use Rattle.ep_base.specs.declared.object.End.{End}
 use Rattle.ep_base.specs.declared.object.End.TheVariants.{First, Second}
-use Rattle.ep_machine.specs.Files.{Files, Place, named_by, numbers_of, object_at, place_of}
+use Rattle.ep_machine.specs.Connections.{accept, first_waiting, pending_in, without_abandoned}
+use Rattle.ep_machine.specs.Files.{Files, Place, content_at, named_by, numbers_of, object_at, object_number, place_of}
 use Rattle.ep_machine.specs.FilesCalls.{files_call}
 use Rattle.ep_machine.specs.Lists.{place_at}
 use Rattle.ep_machine.specs.Objects.{Object, plain}
-use Rattle.ep_machine.specs.Tables.{create_one, create_two, describe, dup2, new_object, same_number, slot, with_table}
+use Rattle.ep_machine.specs.Tables.{close, create_one, create_two, describe, dup2, exec, exit, new_object, same_number, slot, with_table}
 use Rattle.ep_machine.specs.Timer.{Timer, new_timer}
 use Rattle.ep_alarms.proofs.AreSetLemmas.{timer_in}
 use Rattle.ep_object.specs.Next.{timer_of}
+use Rattle.ep_object.specs.Quiet.{IsQuiet}
+use Rattle.ep_table.proofs.QuietLemmas.{dup2_quiet, none_let_go}
 
 -- each description that is there has an object
 abbrev pub HaveObjects : Files → Type 0
@@ -105,17 +108,36 @@ name_again f p fd (pos k) e d = by_test (same_number fd (pos k)) where
   by_test true = refl
   by_test false = refl
 
+-- No connection waits to be accepted yet, so an accept is refused, and no name takes one with it.
+abbrev pub AreQuiet : Files → Type 0
+AreQuiet f = (k : ℕ) → IsQuiet (content_at f k)
+
+pub none_waits : (f : Files) → AreQuiet f → (o : Option Place) → pending_in (unwrap_or (object_at f o) plain) ≡ []
+none_waits f quiet None = refl
+none_waits f quiet (Some p) = (quiet p.object).alone
+
+none_goes : (f : Files) → AreQuiet f → (d : ℕ) → timer_in (without_abandoned f).0 d ≡ timer_in f d
+none_goes f quiet d = ap (λ (left : Files × List (ℕ × ℕ)). timer_in left.0 d) (none_let_go f quiet)
+
 -- a call that makes no timer leaves each
-pub others_left : (limits : Limits) (f : Files) (p : ℕ) (busy : Bool) (call : Call) → HaveObjects f → MakesNoTimer call → (d : ℕ) → timer_in (files_call limits f p busy call).after d ≡ timer_in f d
-others_left limits f p busy (PipeCall cloexec) objects is d = two_other f _ p cloexec objects refl d
-others_left limits f p busy (SocketPair cloexec) objects is d = two_other f _ p cloexec objects refl d
-others_left limits f p busy (EventFd init semaphore cloexec) objects is d = one_other f _ p cloexec objects refl d
-others_left limits f p busy (Socket family cloexec) objects is d = one_other f _ p cloexec objects refl d
-others_left limits f p busy (Plain cloexec) objects is d = one_other f _ p cloexec objects refl d
-others_left limits f p busy (EpollCreate cloexec) objects is d = one_other f _ p cloexec objects refl d
-others_left limits f p busy (Dup2 fd to) objects is d = name_again f p fd.0 to.0 (named_by f p fd.0) d
-others_left limits f p busy (TimerFd clock cloexec) objects is d = absurd is
-others_left limits f p busy call objects is d = refl
+pub others_left : (limits : Limits) (f : Files) (p : ℕ) (busy : Bool) (call : Call) → HaveObjects f → AreQuiet f → MakesNoTimer call → (d : ℕ) → timer_in (files_call limits f p busy call).after d ≡ timer_in f d
+others_left limits f p busy (PipeCall cloexec) objects quiet is d = two_other f _ p cloexec objects refl d
+others_left limits f p busy (SocketPair cloexec) objects quiet is d = two_other f _ p cloexec objects refl d
+others_left limits f p busy (EventFd init semaphore cloexec) objects quiet is d = one_other f _ p cloexec objects refl d
+others_left limits f p busy (Socket family cloexec) objects quiet is d = one_other f _ p cloexec objects refl d
+others_left limits f p busy (Plain cloexec) objects quiet is d = one_other f _ p cloexec objects refl d
+others_left limits f p busy (EpollCreate cloexec) objects quiet is d = one_other f _ p cloexec objects refl d
+others_left limits f p busy (Dup2 fd to) objects quiet is d =
+    let e = named_by f p fd.0 in
+    none_goes (dup2 f p fd.0 to.0 e) (dup2_quiet f p e fd.0 to.0 quiet) d ∙ name_again f p fd.0 to.0 e d
+others_left limits f p busy (Close fd) objects quiet is d = none_goes (close f p fd.0) quiet d
+others_left limits f p busy Exec objects quiet is d = none_goes (exec f p) quiet d
+others_left limits f p busy Exit objects quiet is d = none_goes (exit f p) quiet d
+others_left limits f p busy (Accept fd cloexec) objects quiet is d =
+    let o = place_of f (named_by f p fd.0) in
+    ap (λ (ks : List ℕ). timer_in (accept f p (object_number o) (first_waiting f ks) cloexec) d) (none_waits f quiet o)
+others_left limits f p busy (TimerFd clock cloexec) objects quiet is d = absurd is
+others_left limits f p busy call objects quiet is d = refl
 
 -- a new timer is what the next description shows
 pub timer_made : (limits : Limits) (f : Files) (p : ℕ) (busy : Bool) (clock : ℤ) (cloexec : Bool) → timer_in (files_call limits f p busy (TimerFd clock cloexec)).after (length f.descriptions) ≡ Some new_timer

@@ -24,6 +24,7 @@ use Rattle.ep_calls.specs.ObjectCall.{CallsObject, object_call_of, object_effect
 use Rattle.ep_calls.proofs.RegistrationLemmas.{stands_kept}
 use Rattle.ep_nest.specs.declared.link.Link.{Link}
 use Rattle.ep_table.specs.Value.{Does, Refuses, Seen, Succeeds}
+use Rattle.ep_calls.proofs.JoinLemmas.{joined_none}
 
 match_map : (o : Option Errno) (A B : Type 0) (F G : Errno → Type 0) → (A → B) → ((e : Errno) → F e → G e) → MatchOption o A F → MatchOption o B G
 match_map None A B F G f g h = f h
@@ -42,6 +43,9 @@ module _ (call : FilesCall) (answer : Answer) (v new : Seen) (does : Does call a
 
   pub does_holds : KeepsHolds v new
   does_holds = either (KeepsHolds v new) (λ d. d.holds) (λ e r. subst (λ (x : Seen). KeepsHolds v x) (sym r.tables) (λ n. refl))
+
+  pub does_raised : first call.refusals ≡ None → call.raised ≡ []
+  does_raised h = (subst (λ (o : Option Errno). MatchOption o (Succeeds call answer v new) (λ e. Refuses e answer v new)) h does).raised
 
   pub does_limits : new.limits ≡ v.limits
   does_limits = either (new.limits ≡ v.limits) (λ d. d.limits) (λ e r. ap (λ (x : Seen). x.limits) r.tables)
@@ -71,14 +75,23 @@ module _ (call : FilesCall) (answer : Answer) (v new : Seen) (does : Does call a
 -- what the machine asks of such a call and does, beside these objects
 abbrev pub IsOnObject : List (Option Object) → Fd → ObjectCall → Call → Type 0
 IsOnObject objects fd asked call = (limits : Limits) (s : State) (caller p : ℕ) → s.files.objects ≡ objects
-    → (call_refusals limits s p call ≡ on_object s p fd.0 asked) × (call_change limits s caller p call [] ≡ Some (object_change s p fd.0 asked))
+    → (call_refusals limits s p call ≡ on_object s p fd.0 asked) × (first (on_object s p fd.0 asked) ≡ None → call_change limits s caller p call [] ≡ Some (object_change s p fd.0 asked))
 
 pub on_object_is : (objects : List (Option Object)) (call : Call) (fd : Fd) (asked : ObjectCall) → asks objects call ≡ Some (fd, asked) → IsOnObject objects fd asked call
 on_object_is objects (EpollCtl epfd op at mask tag) fd asked h = absurd (none-some (fd, asked) h)
 on_object_is objects (EpollWait epfd most timeout) fd asked h = absurd (none-some (fd, asked) h)
 on_object_is objects call fd asked h = λ limits s caller p same.
-    let is : asks s.files.objects call ≡ Some (fd, asked) = ap (λ (os : List (Option Object)). asks os call) same ∙ h in
-    (ap (refusals_on limits s p call) is, ap (λ (on : Option (Fd × ObjectCall)). Some (change_on limits s p call on)) is)
+    let is : asks s.files.objects call ≡ Some (fd, asked) = ap (λ (os : List (Option Object)). asks os call) same ∙ h in (
+      ap (refusals_on limits s p call) is,
+      λ allowed. ap (λ (on : Option (Fd × ObjectCall)). Some (change_on limits s p call on)) is ∙ ap Some (joined_none limits s p call fd asked is allowed),
+    )
+
+-- the same of what a call asks that isn't refused
+goes_asked : (tests : List (Bool × Errno)) (o made : Option Change) (s : State) (answer : Answer) (picked : List ℕ) (parts : Parts) → (first tests ≡ None → o ≡ made) → Goes tests made s answer picked parts → Goes tests o s answer picked parts
+goes_asked tests o made s answer picked parts same h = by (first tests) refl h where
+  by : (e : Option Errno) → first tests ≡ e → MatchOption e (Makes made answer parts) (λ x. Refused s x answer picked parts) → MatchOption e (Makes o answer parts) (λ x. Refused s x answer picked parts)
+  by None is m = subst (λ (c : Option Change). Makes c answer parts) (sym (same is)) m
+  by (Some e) is m = m
 
 module _ (v new : Seen) (p : ℕ) (fd : Fd) (now : ℕ) (asked : ObjectCall) (answer : Answer) (calls : CallsObject p fd now asked answer v new) where
   pub object_limits : new.limits ≡ v.limits
@@ -103,4 +116,4 @@ module _ (v new : Seen) (p : ℕ) (fd : Fd) (now : ℕ) (asked : ObjectCall) (an
       let both = is limits s caller p (ap (λ (f : Files). f.objects) stands.files) in
       let P : List (Bool × Errno) → Option Change → Type 0 = λ tests o. Goes tests o s answer [] (record { tables = new; interest = r; graph = g; parked = ws; clock = now }) in
       subst (λ (tests : List (Bool × Errno)). P tests (call_change limits s caller p call [])) (sym both.0)
-      (subst (λ (o : Option Change). P (on_object s p fd.0 asked) o) (sym both.1) (object_goes g r s linked placed stands))
+      (goes_asked (on_object s p fd.0 asked) (call_change limits s caller p call []) (Some (object_change s p fd.0 asked)) s answer [] _ both.1 (object_goes g r s linked placed stands))

@@ -21,6 +21,7 @@ pub mod PickLemmas
 pub mod ReportLemmas
 pub mod RoomLemmas
 pub mod WaitLemmas
+pub mod JoinLemmas
 pub mod FilesCallLemmas
 pub mod TableCallLemmas
 pub mod PurgeLemmas

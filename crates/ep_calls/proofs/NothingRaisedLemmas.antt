@@ -17,7 +17,7 @@ use Rattle.ep_machine.specs.Report.{is_pick, plainly, report}
 use Rattle.ep_machine.specs.Spread.{raised_of}
 use Rattle.ep_machine.specs.State.{Change, State}
 use Rattle.ep_machine.specs.Step.{call_change, change_on}
-use Rattle.ep_machine.specs.Waits.{wait_for}
+use Rattle.ep_machine.specs.Waits.{wait_for, has_parked}
 use Rattle.ep_machine.specs.Watches.{number_in}
 use Rattle.ep_calls.proofs.AskedLemmas.{asks_none}
 use Rattle.ep_calls.specs.Moves.{RaisesCall}
@@ -34,6 +34,8 @@ use Rattle.ep_calls.specs.TableCall.{IsTableCall}
 use Rattle.ep_calls.specs.declared.raising.Raising.{Raising}
 use Rattle.ep_calls.specs.declared.raising.Raising.TheVariants.{Nowhere}
 use Rattle.ep_table.specs.Value.{Seen}
+use Rattle.ep_machine.specs.FilesCalls.{files_call}
+use Rattle.ep_calls.specs.Stands.{Stands}
 
 -- any call but one on the object that a descriptor names, and epoll_ctl
 abbrev pub IsOffObject : Call → Type 0
@@ -73,17 +75,21 @@ wait_raises s caller p e most (pos zero) = λ d w. refl
 wait_raises s caller p e most (pos (suc k)) = λ d w. refl
 wait_raises s caller p e most (negsuc k) = λ d w. refl
 
-files_raise : (limits : Limits) (s : State) (p : ℕ) (call : Call) (on : Option (Fd × ObjectCall)) → on ≡ None → RaisesNothing (change_on limits s p call on)
-files_raise limits s p call on h = subst (λ (o : Option (Fd × ObjectCall)). RaisesNothing (change_on limits s p call o)) (sym h) (λ d w. refl)
+-- one on the tables raises nothing
+abbrev pub LetsNobodyGo : Limits → State → ℕ → Call → Type 0
+LetsNobodyGo limits s p call = first (call_refusals limits s p call) ≡ None → (files_call limits s.files p (has_parked s p) call).raised ≡ []
 
-call_unraising : (limits : Limits) (s : State) (caller p : ℕ) (call : Call) (ks : List ℕ) → IsOffObject call → first (call_refusals limits s p call) ≡ None → Unraising (call_change limits s caller p call ks)
-call_unraising limits s caller p (EpollWait epfd most timeout) ks t h =
+files_raise : (limits : Limits) (s : State) (p : ℕ) (call : Call) (on : Option (Fd × ObjectCall)) → on ≡ None → (files_call limits s.files p (has_parked s p) call).raised ≡ [] → RaisesNothing (change_on limits s p call on)
+files_raise limits s p call on h none = subst (λ (o : Option (Fd × ObjectCall)). RaisesNothing (change_on limits s p call o)) (sym h) (λ d w. ap (λ (raised : List (ℕ × ℕ)). raised_of raised d) none)
+
+call_unraising : (limits : Limits) (s : State) (caller p : ℕ) (call : Call) (ks : List ℕ) → IsOffObject call → LetsNobodyGo limits s p call → first (call_refusals limits s p call) ≡ None → Unraising (call_change limits s caller p call ks)
+call_unraising limits s caller p (EpollWait epfd most timeout) ks t none h =
     let e = named_by s.files p epfd.0 in
     if_unraising (is_ready s e) (report s e (number_in most) ks) (plainly ks (wait_for s caller p e (number_in most) timeout))
     (if_unraising (is_pick s e (number_in most) ks) _ None (some_unraising _ (λ d w. refl)) none_unraising)
     (plain_unraising ks _ (wait_raises s caller p e (number_in most) timeout))
-call_unraising limits s caller p (EpollCtl epfd op fd mask tag) ks t h = absurd t
-call_unraising limits s caller p call ks t h = plain_unraising ks _ (files_raise limits s p call (asks s.files.objects call) (asks_none s.files.objects call t))
+call_unraising limits s caller p (EpollCtl epfd op fd mask tag) ks t none h = absurd t
+call_unraising limits s caller p call ks t none h = plain_unraising ks _ (files_raise limits s p call (asks s.files.objects call) (asks_none s.files.objects call t) (none h))
 
 nowhere_bits : (raising : Raising) (v : Seen) (now d : ℕ) → raising ≡ Nowhere → raised_bits raising v now d ≡ 0
 nowhere_bits raising v now d h = ap (λ (r : Raising). raised_bits r v now d) h
@@ -94,12 +100,13 @@ nothing_raised tests o raising tables now h un = by_cases (first tests) where
   by_cases None = λ made is d watched. un made is d watched ∙ sym (nowhere_bits raising tables now d h)
   by_cases (Some f) = λ d. sym (nowhere_bits raising tables now d h)
 
-pub nowhere_raises : (limits : Limits) (n caller p : ℕ) (call : Call) (picked : List ℕ) (raising : Raising) (old : Parts) (tables : Seen) (now : ℕ) → raising ≡ Nowhere → IsOffObject call → RaisesCall limits n caller p call picked raising old tables now
-nowhere_raises limits n caller p call picked raising old tables now h t = λ s at sound quiet legal stands. by_cases s (first (call_refusals limits s p call)) refl where
-  by_cases : (s : State) (o : Option Errno) → first (call_refusals limits s p call) ≡ o
+pub nowhere_raises : (limits : Limits) (n caller p : ℕ) (call : Call) (picked : List ℕ) (raising : Raising) (old : Parts) (tables : Seen) (now : ℕ) → raising ≡ Nowhere → IsOffObject call
+    → ((s : State) → Stands old.tables old.interest old.parked old.clock s → LetsNobodyGo limits s p call) → RaisesCall limits n caller p call picked raising old tables now
+nowhere_raises limits n caller p call picked raising old tables now h t none = λ s at sound quiet legal stands. by_cases s stands (first (call_refusals limits s p call)) refl where
+  by_cases : (s : State) → Stands old.tables old.interest old.parked old.clock s → (o : Option Errno) → first (call_refusals limits s p call) ≡ o
       → MatchOption o ((made : Change) → call_change limits s caller p call picked ≡ Some made → AsRaisedIn made.1.files raising tables now made.2) (λ e. AsRaised raising tables now [])
-  by_cases s None e = λ made is d watched. call_unraising limits s caller p call picked t e made is d watched ∙ sym (nowhere_bits raising tables now d h)
-  by_cases s (Some errno) e = λ d. sym (nowhere_bits raising tables now d h)
+  by_cases s stands None e = λ made is d watched. call_unraising limits s caller p call picked t (none s stands) e made is d watched ∙ sym (nowhere_bits raising tables now d h)
+  by_cases s stands (Some errno) e = λ d. sym (nowhere_bits raising tables now d h)
 
 resume_unraising : (s : State) (caller : ℕ) (ks : List ℕ) → Unraising (resume s caller ks)
 resume_unraising s caller ks = by_waiter (waiter_of s caller) where

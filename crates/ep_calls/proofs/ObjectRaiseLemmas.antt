@@ -92,14 +92,18 @@ Told new now p fd asked raising at f =
 pub object_raises : (v new : Seen) (p : ℕ) (fd : Fd) (now : ℕ) (asked : ObjectCall) (call : Call) (raising : Raising) → RaisesByCall v new p fd.0 now asked raising
     → {ws : List Waiter} (limits : Limits) (r : Registrations) (s : State) (caller : ℕ) → Stands v r ws now s → IsOnObject v.files.objects fd asked call → Raises (call_refusals limits s p call) (call_change limits s caller p call []) raising new now
 object_raises v new p fd now asked call raising h limits r s caller stands is =
-    let both = is limits s caller p (ap (λ (f : Files). f.objects) stands.files) in
     let P : List (Bool × Errno) → Option Change → Type 0 = λ tests o. Raises tests o raising new now in
     subst (λ (tests : List (Bool × Errno)). P tests (call_change limits s caller p call [])) (sym both.0)
-    (subst (λ (o : Option Change). P (on_object s p fd.0 asked) o) (sym both.1) (by_state (first (on_object s p fd.0 asked)) moved)) where
+    (by_state (first (on_object s p fd.0 asked)) refl moved) where
+      both : (call_refusals limits s p call ≡ on_object s p fd.0 asked) × (first (on_object s p fd.0 asked) ≡ None → call_change limits s caller p call [] ≡ Some (object_change s p fd.0 asked))
+      both = is limits s caller p (ap (λ (f : Files). f.objects) stands.files)
+
       moved : Told new now p fd asked raising s.now s.files
       moved = subst (λ (n : ℕ). Told new now p fd asked raising n s.files) (sym stands.now) (subst (Told new now p fd asked raising now) (sym stands.files) h)
 
-      by_state : (o : Option Errno) → MatchOption o (AsRaised raising new now (object_change s p fd.0 asked).2) (λ e. AsRaised raising new now [])
-          → MatchOption o ((made : Change) → Some (object_change s p fd.0 asked) ≡ Some made → AsRaisedIn made.1.files raising new now made.2) (λ e. AsRaised raising new now [])
-      by_state None h = λ made e d watched. ap (λ (c : Change). raised_of c.2 d) (sym (ap (λ (x : Option Change). unwrap_or x (object_change s p fd.0 asked)) e)) ∙ h d
-      by_state (Some e) h = h
+      by_state : (o : Option Errno) → first (on_object s p fd.0 asked) ≡ o → MatchOption o (AsRaised raising new now (object_change s p fd.0 asked).2) (λ e. AsRaised raising new now [])
+          → MatchOption o ((made : Change) → call_change limits s caller p call [] ≡ Some made → AsRaisedIn made.1.files raising new now made.2) (λ e. AsRaised raising new now [])
+      by_state None is h = λ made e d watched.
+          let same : Some (object_change s p fd.0 asked) ≡ Some made = sym (both.1 is) ∙ e in
+          ap (λ (c : Change). raised_of c.2 d) (sym (ap (λ (x : Option Change). unwrap_or x (object_change s p fd.0 asked)) same)) ∙ h d
+      by_state (Some e) is h = h

@@ -1,5 +1,5 @@
 -- Calls on the tables alone, as the machine makes them whatever is registered.
-use Rattle.std.proofs.Common.{◌≡◌, ℕ, Bool, List, [], Option, Some, ap, subst, sym}
+use Rattle.std.proofs.Common.{◌≡◌, ℕ, Bool, List, [], None, Option, Some, ap, subst, sym, ◌∙◌}
 use Rattle.std.specs.List.{list_any}
 use Rattle.ep_base.specs.Limits.{Limits}
 use Rattle.ep_base.specs.declared.call.Call.{Call}
@@ -23,10 +23,11 @@ use Rattle.ep_calls.specs.declared.outcome.Outcome.{Outcome}
 use Rattle.ep_calls.specs.declared.raising.Raising.{Raising}
 use Rattle.ep_calls.specs.declared.raising.Raising.TheVariants.{Nowhere}
 use Rattle.ep_calls.proofs.AskedLemmas.{asks_none}
-use Rattle.ep_calls.proofs.FilesCallLemmas.{does_goes, does_keys, does_limits}
+use Rattle.ep_calls.proofs.FilesCallLemmas.{does_goes, does_keys, does_limits, does_raised}
 use Rattle.ep_calls.proofs.RegistrationLemmas.{process_waits}
 use Rattle.ep_calls.proofs.NothingRaisedLemmas.{nowhere_raises, off_object}
 use Rattle.ep_table.specs.Value.{Does, Seen}
+use Rattle.ep_machine.specs.Effect.{first}
 
 -- what the machine asks of such a call and does
 abbrev IsMade : Limits → State → ℕ → ℕ → Call → Type 0
@@ -59,8 +60,13 @@ table_does p new pid call outcome h is does picked raising n caller =
           (subst (G (files_call limits s.files pid (has_parked s pid) call).refusals) (sym both.1)
           (subst (F s.files) (sym (process_waits p.tables p.interest p.parked p.clock s pid stands))
           (subst (λ (f : Files). F f busy) (sym stands.files)
-          (does_goes (called p.tables p.parked pid call) outcome.answer p.tables new does p.graph p.interest h.linked h.placed p.clock s [] stands)))));
-      raises = nowhere_raises limits n caller pid call outcome.picked outcome.raising p new p.clock raising (off_object call is);
+          (does_goes (called p.tables p.parked pid call) outcome.answer p.tables new does p.graph p.interest h.linked h.placed p.clock s (called p.tables p.parked pid call).raised stands)))));
+      raises = nowhere_raises limits n caller pid call outcome.picked outcome.raising p new p.clock raising (off_object call is) (λ s stands allowed.
+          let both = is_made limits s caller pid call is in
+          let F : Files → Bool → Type 0 = λ f b. let c = files_call limits f pid b call in first c.refusals ≡ None → c.raised ≡ [] in
+          subst (F s.files) (sym (process_waits p.tables p.interest p.parked p.clock s pid stands))
+          (subst (λ (f : Files). F f busy) (sym stands.files) (does_raised (called p.tables p.parked pid call) outcome.answer p.tables new does))
+          (ap first (sym both.0) ∙ allowed));
       raising = subst (λ (r : Raising). IsRaising r new) (sym raising) tt;
       limits = does_limits (called p.tables p.parked pid call) outcome.answer p.tables new does;
       keys = does_keys (called p.tables p.parked pid call) outcome.answer p.tables new does;

@@ -137,7 +137,7 @@ module _ (Also : State → Type 0) (n caller : ℕ) (outcome : Outcome) (p new :
   wait_does args moves = record {
     moves = moves;
     raises = λ s at sound quiet legal stands also.
-        nowhere_raises p.tables.limits n caller args.pid.0 (wait_call args) outcome.picked outcome.raising p new.tables new.clock raising refl s at sound quiet legal stands;
+        nowhere_raises p.tables.limits n caller args.pid.0 (wait_call args) outcome.picked outcome.raising p new.tables new.clock raising refl (λ t there allowed. refl) s at sound quiet legal stands;
     raising = subst (λ (r : Raising). IsRaising r new.tables) (sym raising) tt;
     limits = limits;
     keys = kept;

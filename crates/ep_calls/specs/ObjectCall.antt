@@ -9,7 +9,7 @@ use Rattle.ep_base.specs.declared.answer.Answer.TheVariants.{Bytes, Connecting, 
 use Rattle.ep_machine.specs.Effect.{Effect}
 use Rattle.ep_base.specs.declared.ids.DescId.{DescId}
 use Rattle.ep_machine.specs.Files.{Files, named_by, names_nothing, object_under, side_of, side_under}
-use Rattle.ep_machine.specs.FilesCalls.{FilesCall}
+use Rattle.ep_machine.specs.FilesCalls.{FilesCall, quietly}
 use Rattle.ep_object.specs.Memory.{object_waiting}
 use Rattle.ep_table.specs.Value.{Does, Seen, content_of, effect_under, files_after, number_of}
 use Rattle.ep_base.specs.declared.errno.Errno.TheVariants.{Ebadf}
@@ -25,12 +25,11 @@ object_effect_of files p fd now asked = object_effect (object_under files p fd) 
 -- what the machine has of such a call
 abbrev pub object_call_of : Files → ℕ → ℤ → ℕ → ObjectCall → FilesCall
 object_call_of files p fd now asked =
-    let effect = object_effect_of files p fd now asked in record {
-      refusals = (names_nothing files p fd, Ebadf)
-          ∷ object_refusals (object_under files p fd) (side_under files p fd) now asked;
-      answer = effect.0;
-      after = affected files (named_by files p fd) effect;
-    }
+    let effect = object_effect_of files p fd now asked in
+    quietly
+    ((names_nothing files p fd, Ebadf) ∷ object_refusals (object_under files p fd) (side_under files p fd) now asked)
+    effect.0
+    (affected files (named_by files p fd) effect)
 
 -- it is made at this moment, with this answer
 abbrev pub CallsObject : ℕ → Fd → ℕ → ObjectCall → Answer → Seen → Seen → Type 0

@@ -10,11 +10,12 @@ use Rattle.ep_base.specs.declared.call.Call.{Call}
 use Rattle.ep_base.specs.declared.call.Call.TheVariants.{EpollCtl, EpollWait}
 use Rattle.ep_base.specs.declared.call.Event.{Event}
 use Rattle.ep_base.specs.declared.call.Event.TheVariants.{Call as CallOf, Resume, Tick}
-use Rattle.ep_law.proofs.StepLemmas.{left_after, resumes}
+use Rattle.ep_law.proofs.StepLemmas.{left_after, only_files, resumes}
 use Rattle.ep_machine.specs.Bits.{ONESHOT, has_bit}
 use Rattle.ep_machine.specs.Deaths.{dying, named_in_tables}
 use Rattle.ep_machine.specs.Files.{Place, is_live, live, named_by}
 use Rattle.ep_machine.specs.Lists.{is_among}
+use Rattle.ep_machine.specs.Objects.{asks}
 use Rattle.ep_machine.specs.Readiness.{is_ready}
 use Rattle.ep_machine.specs.Report.{is_pick, plainly, report, report_of, reported, watches_at}
 use Rattle.ep_machine.specs.State.{Change, State, Watch, counts_of}
@@ -105,7 +106,7 @@ module _ (b : State) where
     unfolding Leaves
     call_leaves p (EpollCtl epfd op fd mask tag) is = inl (from_plainly ks (ctl b p epfd.0 op fd.0 mask.0 tag) c is (same_ctl p epfd.0 op fd.0 mask.0 tag))
     call_leaves p (EpollWait epfd most timeout) is = inr (from_after _ c is (after_wait caller p (named_by b.files p epfd.0) (number_in most) timeout ks (is_ready b (named_by b.files p epfd.0))))
-    call_leaves p call is = same _ is refl
+    call_leaves p call is = same _ is (ap (λ (t : State). map core t.watches) (only_files limits b p call (asks b.files.objects call)).1)
 
     event_leaves : (event : Event) → change limits b caller event ks ≡ Some c → Leaves c
     unfolding Leaves

@@ -212,7 +212,7 @@ stands_settle b after raised own = record {
       subst (λ (w : Watch). is_live (settle b after raised).files w.target ≡ true) (sym x.2.1) (second_of_and _ _ (kept_left after raised x.0 x.1));
 }
 
-module _ (apply : ApplyLaw) (clock : AdvanceLaw) (limits : Limits) where
+module _ (apply : ApplyLaw) (close : CloseLaw) (clock : AdvanceLaw) (limits : Limits) where
   IsStep : Option (Answer × State) → Type 0
   IsStep o = MatchOption o (Unit {0}) (λ c. Stands c.1)
 
@@ -232,7 +232,7 @@ module _ (apply : ApplyLaw) (clock : AdvanceLaw) (limits : Limits) where
   stands_step s t caller event picked a h e =
       let now = next_event s in
       let start : Stands now = record { own = h.own; lives = h.lives } in
-      subst IsStep e (stands_refused (first (refusals limits now caller event)) now picked (change limits now caller event picked) start (λ allowed c is. (moves_change apply clock limits now caller picked h.own event c allowed is).own))
+      subst IsStep e (stands_refused (first (refusals limits now caller event)) now picked (change limits now caller event picked) start (λ allowed c is. (moves_change apply close clock limits now caller picked h.own event c allowed is).own))
 
 stands_opening : Stands opening
 stands_opening = record { own = own; lives = λ x m. absurd m } where
@@ -249,10 +249,10 @@ stands_opening = record { own = own; lives = λ x m. absurd m } where
     ends = λ d p e. subst (λ (q : Place). object_has (object_there opening_files q.object) q.side ≡ true) (sym (place d p e).1) refl;
   }
 
-pub ends_are_apart : ApplyLaw → AdvanceLaw → EndsAreApart
-ends_are_apart apply clock limits past s is =
-    let own = (run_keeps Stands limits (stands_step apply clock limits) opening s past stands_opening is).own in
-    record { apart = own.apart; ends = own.ends }
+pub ends_are_apart : ApplyLaw → CloseLaw → AdvanceLaw → EndsAreApart
+ends_are_apart apply close clock limits past s is =
+    let own = (run_keeps Stands limits (stands_step apply close clock limits) opening s past stands_opening is).own in
+    record { made = own.made; first = (own.some, own.first); apart = own.apart; ends = own.ends }
 
 present_begun : (s : State) (d : ℕ) → present (next_event s) d ≡ present s d
 present_begun s d = λ i. present_of (λ e. ready_same s (s.n + 1) s.waiters e i) d (object_of s.files d) (side_of s.files d) s.now
@@ -264,7 +264,7 @@ module _ (apply : ApplyLaw) (close : CloseLaw) (clock : AdvanceLaw) (limits : Li
   begun = next_event s
 
   stands_run : Stands s
-  stands_run = run_keeps Stands limits (stands_step apply clock limits) opening s past stands_opening is
+  stands_run = run_keeps Stands limits (stands_step apply close clock limits) opening s past stands_opening is
 
   linked_before : Linked begun
   linked_before = linked_begun s (linked_run limits past s is)
@@ -273,7 +273,7 @@ module _ (apply : ApplyLaw) (close : CloseLaw) (clock : AdvanceLaw) (limits : Li
   linked_after = linked_change limits begun caller event picked c allowed made linked_before
 
   moves_run : Moves begun c.1 c.2
-  moves_run = moves_change apply clock limits begun caller picked stands_run.own event c allowed made
+  moves_run = moves_change apply close clock limits begun caller picked stands_run.own event c allowed made
 
   pub instance_begins : (e : ℕ) → object_of (settle begun c.1 c.2).files e ≡ Some instance → is_ready (settle begun c.1 c.2) e ≡ true → is_ready begun e ≡ false → bit_at (spread_of c e) 0 ≡ 1
   instance_begins = begins close begun c.1 c.2 linked_before linked_after stands_run.lives moves_run

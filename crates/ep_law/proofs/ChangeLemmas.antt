@@ -9,7 +9,7 @@ use Rattle.ep_facts.proofs.BoolFacts.{first_of_and}
 use Rattle.ep_base.specs.Limits.{Limits}
 use Rattle.ep_base.specs.declared.answer.Answer.TheVariants.{Events, Still}
 use Rattle.ep_base.specs.declared.call.Call.{Call}
-use Rattle.ep_law.proofs.ShapeLemmas.{by_making, by_shape}
+use Rattle.ep_law.proofs.ShapeLemmas.{by_making, by_shape, by_joined}
 use Rattle.ep_base.specs.declared.call.Event.{Event}
 use Rattle.ep_base.specs.declared.call.Event.TheVariants.{Call as CallOf, Resume, Tick}
 use Rattle.ep_base.specs.declared.errno.Errno.{Errno}
@@ -28,20 +28,28 @@ use Rattle.ep_machine.specs.Refusal.{call_refusals, on_object, refusals}
 use Rattle.ep_machine.specs.Report.{is_pick, plainly, report, report_of, reported, watches_at}
 use Rattle.ep_machine.specs.Spread.{raised_of}
 use Rattle.ep_machine.specs.State.{Change, State, Waiter, Watch, counts_of}
-use Rattle.ep_machine.specs.Step.{call_change, change, object_change}
+use Rattle.ep_machine.specs.Step.{call_change, change, object_change, joined}
 use Rattle.ep_machine.specs.Tables.{affected, create_one, create_two, new_object}
 use Rattle.ep_machine.specs.FilesCalls.{files_call}
 use Rattle.ep_machine.specs.Waits.{advance_at, has_parked, is_due, is_parked, leave, leave_after, resume_by, resume_empty, tick, unmarked, wait, wait_for, waiter_of}
 use Rattle.ep_machine.specs.Watches.{add, ctl, delete, has_key, is_add, is_del, looked_at, modified, modify, new_watch, number_in, with_watch}
 use Rattle.ep_law.proofs.GraphLemmas.{member_of_map}
-use Rattle.ep_law.proofs.InstanceLemmas.{FirstIsNone, Narrows, narrows_affected, narrows_one, narrows_self, narrows_two}
+use Rattle.ep_law.proofs.InstanceLemmas.{FirstIsNone, Narrows, narrows_affected, narrows_one, narrows_self, narrows_two, narrows_trans, first_waits, narrows_accept}
 use Rattle.ep_law.proofs.ListLemmas.{any_has, filtered_member, member_filter, member_map}
 use Rattle.ep_law.proofs.DeathLemmas.{get_other}
-use Rattle.ep_object.specs.Law.{AdvanceLaw, ApplyLaw, object_has}
-use Rattle.ep_object.proofs.BitLemmas.{Covers, covers_more, covers_self, no_bit, to_bits}
+use Rattle.ep_object.specs.Law.{AdvanceLaw, ApplyLaw, object_has, CloseLaw}
+use Rattle.ep_object.proofs.BitLemmas.{Covers, covers_more, covers_self, no_bit, to_bits, covers_then}
 use Rattle.ep_object.proofs.KindLemmas.{call_keeps_plain, effect_has, plain_is}
-use Rattle.ep_law.proofs.EndLemmas.{Own, object_there, own_one, own_two, own_with_object}
-use Rattle.ep_law.proofs.RaiseLemmas.{live_member, present_place, raised_member, raised_there}
+use Rattle.ep_law.proofs.EndLemmas.{Own, object_there, own_one, own_two, own_with_object, own_describe}
+use Rattle.ep_law.proofs.RaiseLemmas.{live_member, present_place, raised_member, raised_there, raised_first, raised_last}
+use Rattle.ep_law.proofs.ReplaceLemmas.{narrows_replaced, own_replaced, still, found_listens, join_replaces, abandoned_go, accept_replaces}
+use Rattle.ep_law.proofs.ReplaceLemmas.{accept_below, accept_has, accept_free, Replaces, have_ends}
+use Rattle.ep_machine.specs.Connections.{accept, accepted, without_pending}
+use Rattle.ep_machine.specs.Files.{with_object, side_in}
+use Rattle.ep_machine.specs.Listening.{Listener}
+use Rattle.ep_machine.specs.Objects.{is_waiting}
+use Rattle.ep_object.specs.Connecting.{IsListener}
+use Rattle.ep_object.proofs.ConnectionLemmas.{pending_listener}
 
 -- one that was looked at, as it was made or changed
 abbrev pub IsLooked : State → List (ℕ × ℕ) → Watch → Type 0
@@ -185,7 +193,7 @@ module _ (b : State) (p : ℕ) (x : Object) (cloexec : Bool) (own : Own b.files)
   }
 
 -- A call on an object.
-under_is : (f : Files) → Own f → (o : Option Place) → unwrap_or (object_at f o) plain ≡ object_there f (object_number o)
+pub under_is : (f : Files) → Own f → (o : Option Place) → unwrap_or (object_at f o) plain ≡ object_there f (object_number o)
 under_is f own None = sym (plain_is (object_there f 0) own.first)
 under_is f own (Some p) = refl
 
@@ -232,7 +240,7 @@ module _ (apply : ApplyLaw) (b : State) (p : ℕ) (fd : ℤ) (asked : ObjectCall
         same_shows b.files g b.now d q (raised_at b.files k made.2) here here (ap (λ (y : Option Object). unwrap_or y plain) (get_other b.files.objects k q.object (Some made.1) (λ i. other (sym i))))
   ]
 
-  moves_object : Moves b (object_change b p fd asked).1 (object_change b p fd asked).2
+  pub moves_object : Moves b (object_change b p fd asked).1 (object_change b p fd asked).2
   moves_object = record {
     arrivals = refl;
     own = own_with_object b.files k made.1 own (λ s h. effect_has x e b.now asked s ∙ (ap (λ (y : Object). object_has y s) (sym is_x) ∙ h)) (λ h. call_keeps_plain x e b.now asked ∙ (ap is_plain (sym is_x) ∙ h));
@@ -240,6 +248,28 @@ module _ (apply : ApplyLaw) (b : State) (p : ℕ) (fd : ℤ) (asked : ObjectCall
     shows = shows_affected;
     comes = λ y m. inl (kept_same b y m);
   }
+
+-- What connections change of objects that others have.
+-- every description may be called
+abbrev any : ℕ → Bool
+any d = true
+
+moves_then : (b after : State) (raised : List (ℕ × ℕ)) (g : Files) (more : List (ℕ × ℕ)) → after.now ≡ b.now → after.watches ≡ b.watches → Moves b after raised → Replaces any after.now after.files g more → Moves b (record after { files = g }) (raised ++ more)
+moves_then b after raised g more same watches m r = record {
+  arrivals = m.arrivals;
+  own = own_replaced any after.now after.files g more r m.own;
+  narrows = narrows_trans b.files after.files g m.narrows (narrows_replaced any after.now after.files g more r m.own);
+  shows = λ d p here. covers_then _ _ _ (raised_of raised d) (raised_of more d) (raised_of (raised ++ more) d) (raised_first raised more d) (raised_last raised more d) (m.shows d p here) (at d (place_of after.files d) refl);
+  comes = λ x y. inl (kept_same b x (subst (Member x) watches y));
+} where
+  at : (d : ℕ) (o : Option Place) → place_of after.files d ≡ o → Covers (present_at after.files after.now d) (present_at g after.now d) (raised_of more d)
+  at d None is =
+      let none : place_of g d ≡ None = ap (λ (ds : List (Option Place)). get_or ds d None) r.places ∙ is in
+      let nothing : present_at g after.now d ≡ 0 = ap (λ (q : Option Place). object_present (unwrap_or (object_at g q) plain) (side_in q) after.now) none in
+      λ i h. absurd (no_bit i (subst (λ (n : ℕ). bit_at n i ≡ 1) nothing h))
+  at d (Some q) is =
+      subst (λ (n : ℕ). Covers n (present_at g after.now d) (raised_of more d)) (sym (present_place after.files after.now d q is))
+      (subst (λ (n : ℕ). Covers (object_present (object_there after.files q.object) q.side after.now) n (raised_of more d)) (sym (present_place g after.now d q (still any after.now after.files g more r d q is))) (r.like d q is).covers)
 
 -- The clock.
 module _ (clock : AdvanceLaw) (b : State) (later : ℕ) (own : Own b.files) where
@@ -328,19 +358,55 @@ first_rest : (t : Bool) (e : Errno) (rows : List (Bool × Errno)) → first ((t,
 first_rest true e rows h = cc
 first_rest false e rows h = h
 
-module _ (apply : ApplyLaw) (clock : AdvanceLaw) (limits : Limits) (b : State) (caller : ℕ) (ks : List ℕ) (own : Own b.files) where
-  on : (p : ℕ) (fd : ℤ) (asked : ObjectCall) → first (on_object b p fd asked) ≡ None → Fine b (plainly ks (object_change b p fd asked))
-  on p fd asked allowed = fine_plainly b ks _ (moves_object apply b p fd asked own (first_rest (names_nothing b.files p fd) Ebadf (object_refusals (object_under b.files p fd) (side_under b.files p fd) b.now asked) allowed))
+module _ (apply : ApplyLaw) (close : CloseLaw) (clock : AdvanceLaw) (limits : Limits) (b : State) (caller : ℕ) (ks : List ℕ) (own : Own b.files) where
+  -- a connect joins who listens
+  joins : (p : ℕ) (call : Call) (c : Change) → c.1.now ≡ b.now → c.1.watches ≡ b.watches → Moves b c.1 c.2 → Moves b (joined limits p call c).1 (joined limits p call c).2
+  joins p call c now watches m =
+      by_joined limits p (λ d. Moves b d.1 d.2) call c m (λ fd name x l same at is unix.
+      let f = c.1.files in
+      let o = place_of f (named_by f p fd.0) in
+      let heard = found_listens f name l is in
+      moves_then b c.1 c.2 _ _ now watches m
+      (join_replaces any c.1.now limits.sock_bytes f (have_ends f m.own) (object_number o) l x heard.0 name (sym (under_is f m.own o) ∙ at) heard.1 unix (λ d p here also. refl)))
+
+  on : (p : ℕ) (call : Call) (fd : ℤ) (asked : ObjectCall) → first (on_object b p fd asked) ≡ None → Fine b (plainly ks (joined limits p call (object_change b p fd asked)))
+  on p call fd asked allowed =
+      fine_plainly b ks _ (joins p call (object_change b p fd asked) refl refl
+      (moves_object apply b p fd asked own (first_rest (names_nothing b.files p fd) Ebadf (object_refusals (object_under b.files p fd) (side_under b.files p fd) b.now asked) allowed)))
 
   abbrev IsFine : Call → List (Bool × Errno) → Option Change → Type 0
   IsFine call tests c = first tests ≡ None → Fine b c
 
-  moves_after : (p : ℕ) (call : Call) → Moves b (record b { files = (files_call limits b.files p (has_parked b p) call).after }) []
+  -- an accept describes the second end
+  moves_accept : (p m k : ℕ) (cloexec : Bool) (l : Listener) → IsListener (object_there b.files m) l → is_waiting (object_there b.files k) ≡ true → Moves b (record b { files = accept b.files p m (Some k) cloexec }) []
+  moves_accept p m k cloexec l is waits =
+      let f = b.files in
+      let r = accept_replaces any b.now f (have_ends f own) m k l is waits (λ d q here at. refl) in
+      let made = with_object (with_object f m (without_pending k (object_there f m))) k (accepted (object_there f k)) in
+      let owned = own_replaced any b.now f made [] r own in
+      let below = accept_below any b.now f (have_ends f own) m k l is waits (λ d q here at. refl) in
+      let shown = moves_then b b [] made [] refl refl (moves_tables b f b.waiters refl refl own) r in
+      record {
+        arrivals = refl;
+        own = own_describe made p k Second cloexec below (accept_has any b.now f (have_ends f own) m k l is waits (λ d q here at. refl)) (accept_free any b.now f (have_ends f own) m k l is waits (λ d q here at. refl)) owned;
+        narrows = narrows_accept f p m k cloexec own.made waits;
+        shows = λ d q here.
+            let at = still any b.now f made [] r d q here in
+            covers_then _ _ _ 0 0 0 (λ i h. h) (λ i h. h) (shown.shows d q here) (same_shows made (accept f p m (Some k) cloexec) b.now d q [] at (still_there made.descriptions _ d q at) refl);
+        comes = λ y w. inl (kept_same b y w);
+      }
+
+  moves_after : (p : ℕ) (call : Call) → Moves b (record b { files = (files_call limits b.files p (has_parked b p) call).after }) (files_call limits b.files p (has_parked b p) call).raised
   moves_after p call =
-      by_making limits b.files p (has_parked b p) (λ g. Moves b (record b { files = g }) [])
-      (λ x cloexec has. moves_one b p x cloexec own has)
-      (λ x cloexec has also. moves_two b p x cloexec own has also)
-      (λ g d o. moves_tables b g b.waiters d o own)
+      by_making limits b.files p (has_parked b p) (λ of g raised. Moves b (record b { files = g }) raised)
+      (λ of x cloexec has. moves_one b p x cloexec own has)
+      (λ of x cloexec has also. moves_two b p x cloexec own has also)
+      (λ of g d o. moves_tables b g b.waiters d o own)
+      (λ of g d o. let m = moves_tables b g b.waiters d o own in moves_then b (record b { files = g }) [] _ _ refl refl m (abandoned_go close any b.now g (have_ends g m.own)))
+      (λ fd cloexec k is.
+      let o = place_of b.files (named_by b.files p fd.0) in
+      let there = pending_listener (object_under b.files p fd.0) b.files k is in
+      moves_accept p (object_number o) k cloexec there.0 (sym (under_is b.files own o) ∙ there.1) (first_waits b.files _ k is))
       call
 
   fine_call : (p : ℕ) (call : Call) → first (call_refusals limits b p call) ≡ None → Fine b (call_change limits b caller p call ks)
@@ -348,7 +414,7 @@ module _ (apply : ApplyLaw) (clock : AdvanceLaw) (limits : Limits) (b : State) (
       by_shape limits b caller p ks IsFine
       (λ epfd op fd mask tag allowed. fine_plainly b ks _ (moves_ctl b p epfd.0 op fd.0 mask.0 tag own))
       (λ epfd most timeout allowed. fine_wait b caller p (named_by b.files p epfd.0) (number_in most) timeout ks own)
-      (λ of fd asked is allowed. on p fd.0 asked allowed)
+      (λ of fd asked is allowed. on p of fd.0 asked allowed)
       (λ of is allowed. fine_plainly b ks _ (moves_after p of))
       call
 

@@ -10,7 +10,7 @@ use Rattle.ep_base.specs.declared.object.End.{End}
 use Rattle.ep_machine.specs.Deaths.{die, die_all}
 use Rattle.ep_machine.specs.Files.{Files, Place, place_of}
 use Rattle.ep_machine.specs.Lists.{are_distinct, is_among, numbered}
-use Rattle.ep_machine.specs.Objects.{Object, close_end, plain}
+use Rattle.ep_machine.specs.Objects.{Object, close_end, is_waiting, plain}
 use Rattle.ep_object.proofs.KindLemmas.{closes_commute}
 
 -- Lists.
@@ -84,7 +84,7 @@ module _ (s : Files) (x y : ℕ × Place) (apart : x.0 ≢ y.0) (x_is : place_of
 
   -- the objects once the first has died, and then the second
   abbrev keeps : List (Option Place) → ℕ → Object → Option Object
-  keeps rest k o = if has_one k 0 rest then Some o else None
+  keeps rest k o = if has_one k 0 rest || is_waiting o then Some o else None
 
   abbrev once : List (Option Object)
   once = set s.objects x.1.object (keeps without_x x.1.object (shut x.1.object x.1.side))
@@ -101,7 +101,7 @@ module _ (s : Files) (x y : ℕ × Place) (apart : x.0 ≢ y.0) (x_is : place_of
       let first_kept : has_one x.1.object 0 left ≡ has_one x.1.object 0 without_x = has_other x.1.object 0 y.0 without_x y.1 y_stays (λ e. other (sym e)) in
       let found = get_other s.objects x.1.object y.1.object (keeps without_x x.1.object (shut x.1.object x.1.side)) other in
       (λ i. set once y.1.object (keeps left y.1.object (close_end (unwrap_or (found i) plain) y.1.side).0))
-      ∙ ap (λ (b : Bool). set (set s.objects x.1.object (if b then Some (shut x.1.object x.1.side) else None)) y.1.object (keeps left y.1.object (shut y.1.object y.1.side))) (sym first_kept)
+      ∙ ap (λ (b : Bool). set (set s.objects x.1.object (if b || is_waiting (shut x.1.object x.1.side) then Some (shut x.1.object x.1.side) else None)) y.1.object (keeps left y.1.object (shut y.1.object y.1.side))) (sym first_kept)
 
   -- of the two ends of one
   pub of_one : y.1.object ≡ x.1.object → twice ≡ set s.objects x.1.object (keeps left x.1.object (close_end (shut x.1.object x.1.side) y.1.side).0)
@@ -109,7 +109,7 @@ module _ (s : Files) (x y : ℕ × Place) (apart : x.0 ≢ y.0) (x_is : place_of
       let k = x.1.object in
       let f : Option Object → Option Object = λ o. keeps left k (close_end (unwrap_or o plain) y.1.side).0 in
       let there : has_one k 0 without_x ≡ true = has_here k 0 y.0 without_x y.1 y_stays same in
-      let first_kept : once ≡ set s.objects k (Some (shut k x.1.side)) = ap (λ (b : Bool). set s.objects k (if b then Some (shut k x.1.side) else None)) there in
+      let first_kept : once ≡ set s.objects k (Some (shut k x.1.side)) = ap (λ (b : Bool). set s.objects k (if b || is_waiting (shut k x.1.side) then Some (shut k x.1.side) else None)) there in
       (λ i. set once (same i) (keeps left (same i) (close_end (unwrap_or (get_or once (same i) None) plain) y.1.side).0))
       ∙ (ap (λ (os : List (Option Object)). set os k (f (get_or os k None))) first_kept
       ∙ (set_twice s.objects k (Some (shut k x.1.side)) (f (get_or (set s.objects k (Some (shut k x.1.side))) k None))

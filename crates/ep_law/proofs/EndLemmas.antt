@@ -7,13 +7,15 @@ use Rattle.ep_base.specs.declared.object.End.TheVariants.{First, Second}
 use Rattle.ep_machine.specs.Deaths.{kept_object}
 use Rattle.ep_machine.specs.Files.{Files, Place, place_of, with_object}
 use Rattle.ep_machine.specs.Lists.{are_distinct}
-use Rattle.ep_machine.specs.Objects.{Object, close_end, is_plain, plain}
+use Rattle.ep_machine.specs.Objects.{Object, close_end, is_plain, plain, is_waiting}
 use Rattle.ep_machine.specs.Tables.{create_one, create_two, describe, new_object}
 use Rattle.ep_law.proofs.DeathLemmas.{ArePlaced, after_all, after_first, apart_from_rest, has_here, numbers, still_placed}
 use Rattle.ep_law.proofs.InstanceLemmas.{AreMade, narrows_death, narrows_describe, narrows_new_object}
 use Rattle.ep_law.proofs.NamedLivesLemmas.{get_none}
 use Rattle.ep_object.proofs.KindLemmas.{close_has, close_keeps_plain}
 use Rattle.ep_object.specs.Law.{object_has}
+use Rattle.std.proofs.Common.{◌||◌}
+use Rattle.ep_law.specs.Laws.{HaveOwnEnds}
 
 abbrev pub object_there : Files → ℕ → Object
 object_there f k = unwrap_or (get_or f.objects k None) plain
@@ -24,6 +26,9 @@ pub record Own (f : Files) : Type 0 where
   pub first : is_plain (object_there f 0) ≡ true  -- object 0 is the plain one of the opening
   pub apart : (d e : ℕ) (p : Place) → place_of f d ≡ Some p → place_of f e ≡ Some p → d ≡ e
   pub ends : (d : ℕ) (p : Place) → place_of f d ≡ Some p → object_has (object_there f p.object) p.side ≡ true
+
+pub own_of : (f : Files) → HaveOwnEnds f → Own f
+own_of f ends = record { made = ends.made; some = ends.first.0; first = ends.first.1; apart = ends.apart; ends = ends.ends }
 
 -- what holds of an object and of the one in its place
 pub set_object : (P : Object → Type 0) (os : List (Option Object)) (k j : ℕ) (o : Option Object) → (j ≡ k → P (unwrap_or o plain)) → P (unwrap_or (get_or os j None) plain) → P (unwrap_or (get_or (set os k o) j None) plain)
@@ -144,7 +149,7 @@ module _ (f : Files) (x : ℕ × Place) (is : place_of f x.0 ≡ Some x.1) (own 
 
   -- its object is there, with the end of the dead closed
   pub shut_there : (d : ℕ) (p : Place) → place_of g d ≡ Some p → p.object ≡ k → kept_object (record f { descriptions = gone }) k shut ≡ Some shut
-  shut_there d p e at = ap (λ (b : Bool). if b then Some shut else None) (has_here k 0 d gone p e at)
+  shut_there d p e at = ap (λ (b : Bool). if b || is_waiting shut then Some shut else None) (has_here k 0 d gone p e at)
 
   pub own_death : Own g
   own_death = record {

@@ -35,8 +35,10 @@ use Rattle.ep_machine.specs.Step.{next_event, call_change, change, refused_or, s
 use Rattle.ep_machine.specs.Waits.{leave_after, resume, tick, wait_for}
 use Rattle.ep_machine.specs.Watches.{ctl, has_key, is_add, is_del, modified, new_watch, number_in, with_watch}
 use Rattle.ep_law.proofs.ListLemmas.{all_member, among_member, distinct_append, distinct_filtered, each_found, filtered_member, filtered_passes, find_member, found_member, list_all_member, mapped_member, one_number, among, any_member, member_filter, member_map}
-use Rattle.ep_law.proofs.StepLemmas.{left_after, resumes}
+use Rattle.ep_law.proofs.StepLemmas.{left_after, resumes, only_files}
 use Rattle.ep_law.proofs.SoundLemmas.{sound_begun, sound_run, sound_step}
+use Rattle.ep_machine.specs.Objects.{asks}
+use Rattle.std.proofs.Common.{subst, sym}
 
 -- k became reportable by event m; what was told was reported after it
 record Tracks (k m : ℕ) (told : List ℕ) (s : State) : Type 0 where
@@ -281,7 +283,9 @@ module _ (limits : Limits) (e k m : ℕ) (told : List ℕ) (s : State) (sound : 
   fine_call caller p (EpollWait epfd most timeout) ks left =
       let i = named_by s.files p epfd.0 in
       fine_if ks (is_ready s i) _ _ (fine_report i (number_in most) ks left) (fine_plainly ks _ (tracks_wait_for caller p i (number_in most) timeout))
-  fine_call caller p call ks left = fine_plainly ks _ (same_watches k m told s _ refl refl refl h)
+  fine_call caller p call ks left =
+      let only = only_files limits s p call (asks s.files.objects call) in
+      fine_plainly ks _ (subst (Tracks k m told) (sym only.1) (same_watches k m told s (record s { files = only.0 }) refl refl refl h))
 
   IsStep : List ℕ → Option (Answer × State) → Type 0
   IsStep ks o = MatchOption o (Unit {0}) (λ c. Good ks c.1)

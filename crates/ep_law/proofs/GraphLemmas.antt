@@ -4,7 +4,7 @@ use Rattle.std.specs.Prelude.{bit_and}
 use Rattle.std.proofs.lemmas.Nat.{and_assoc}
 use Rattle.std.specs.Int.Bits.{and_zero_r}
 use Rattle.ep_machine.specs.Bits.{EXCLUSIVE, ONESHOT, exclusive_bits, has_bit, has_only}
-use Rattle.ep_machine.specs.Files.{Files, is_live, object_of, named_by, object_under, opening_files}
+use Rattle.ep_machine.specs.Files.{Files, is_live, object_of, named_by, object_under, opening_files, object_number, place_of}
 use Rattle.ep_law.specs.Laws.{Member, GraphStaysLegal, ExclusiveTargets, IsApart}
 use Rattle.ep_machine.specs.Lists.{is_among, is_empty}
 use Rattle.ep_machine.specs.Objects.{is_instance, plain, is_plain}
@@ -15,7 +15,7 @@ use Rattle.std.proofs.lemmas.Bool.{cases_Bool, false_from_ne_true, false≢true,
 use Rattle.ep_facts.proofs.NatFacts.{from_test}
 use Rattle.ep_facts.proofs.BoolFacts.{from_not_false, or_nothing_false}
 use Rattle.ep_base.specs.declared.call.Call.{Call}
-use Rattle.ep_law.proofs.ShapeLemmas.{OfCtl, by_making, by_shape}
+use Rattle.ep_law.proofs.ShapeLemmas.{OfCtl, by_making, by_shape, by_joined}
 use Rattle.ep_machine.specs.Deaths.{die_all, buried, dying, is_kept}
 use Rattle.ep_base.specs.Limits.{Limits}
 use Rattle.ep_base.specs.declared.answer.Answer.{Answer}
@@ -32,12 +32,14 @@ use Rattle.ep_machine.specs.Run.{run}
 use Rattle.ep_machine.specs.Report.{is_pick, plainly, report, report_of, reported, watches_at}
 use Rattle.ep_machine.specs.Settle.{came, reportable_numbers, settle}
 use Rattle.ep_machine.specs.Spread.{arrived}
-use Rattle.ep_machine.specs.Step.{next_event, call_change, change, refused_or, settled, step}
+use Rattle.ep_machine.specs.Step.{next_event, call_change, change, refused_or, settled, step, joined}
 use Rattle.ep_machine.specs.FilesCalls.{files_call}
 use Rattle.ep_machine.specs.Waits.{has_parked, leave_after, wait, wait_for}
 use Rattle.ep_law.proofs.StepLemmas.{left_after, resumes, run_keeps}
 use Rattle.ep_law.specs.Laws.{has_instance}
 use Rattle.ep_law.proofs.InstanceLemmas.{AreMade, FirstIsNone, Narrows, instance_below, narrows_affected, narrows_deaths, narrows_one, narrows_self, narrows_two, watched_below}
+use Rattle.ep_law.proofs.InstanceLemmas.{narrows_accept, narrows_all_go, narrows_join, first_waits, from_number, is_instance_at}
+use Rattle.ep_machine.specs.Connections.{abandoned}
 
 -- Legal lists of links: what is within one is legal.
 
@@ -383,11 +385,23 @@ module _ (limits : Limits) (s : State) (caller p : ℕ) (call : Call) (ks : List
 
   linked_after : (on : Call) → Linked (record s { files = (files_call limits s.files p (has_parked s p) on).after })
   linked_after on =
-      by_making limits s.files p (has_parked s p) (λ g. Linked (record s { files = g }))
-      (λ x cloexec has. linked_files s _ (narrows_one s.files p x cloexec h.made) refl h)
-      (λ x cloexec has also. linked_files s _ (narrows_two s.files p x cloexec h.made) refl h)
-      (λ g d o. linked_tables s _ refl d o h)
+      by_making limits s.files p (has_parked s p) (λ of g raised. Linked (record s { files = g }))
+      (λ of x cloexec has. linked_files s _ (narrows_one s.files p x cloexec h.made) refl h)
+      (λ of x cloexec has also. linked_files s _ (narrows_two s.files p x cloexec h.made) refl h)
+      (λ of g d o. linked_tables s _ refl d o h)
+      (λ of g d o.
+      let one : Linked (record s { files = g }) = linked_tables s _ refl d o h in
+      linked_files (record s { files = g }) _ (narrows_all_go g [] (abandoned g) one.made) refl one)
+      (λ fd cloexec k is. linked_files s _ (narrows_accept s.files p _ k cloexec h.made (first_waits s.files _ k is)) refl h)
       on
+
+  linked_joined : (on : Call) (c : Change) → Linked c.1 → Linked (joined limits p on c).1
+  linked_joined on c l =
+      by_joined limits p (λ d. Linked d.1) on c l (λ fd name x m same is at unix.
+      let f = c.1.files in
+      let o = place_of f (named_by f p fd.0) in
+      let none : is_instance_at f.objects (object_number o) ≡ false = false_from_ne_true _ (λ t. false≢true (ap is_instance (sym is) ∙ from_number f o l.first t)) in
+      linked_files c.1 _ (narrows_join limits.sock_bytes f (object_number o) m x name l.made none) refl l)
 
   linked_by_ctl : OfCtl limits s caller p ks IsLinked
   linked_by_ctl epfd op fd mask tag a b c =
@@ -401,7 +415,7 @@ module _ (limits : Limits) (s : State) (caller p : ℕ) (call : Call) (ks : List
   fine_call =
       by_shape limits s caller p ks IsLinked linked_by_ctl
       (λ epfd most timeout a b c. fine_wait s caller p (named_by s.files p epfd.0) (number_in most) timeout ks h)
-      (λ on fd asked is a b c. fine_plainly ks _ (linked_files s _ (narrows_affected s.files p fd.0 s.now asked h.made h.first) refl h))
+      (λ on fd asked is a b c. fine_plainly ks _ (linked_joined on _ (linked_files s _ (narrows_affected s.files p fd.0 s.now asked h.made h.first) refl h)))
       (λ on is a b c. fine_plainly ks _ (linked_after on))
       call
 

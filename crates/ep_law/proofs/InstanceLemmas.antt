@@ -4,7 +4,7 @@ use Rattle.std.specs.List.{list_any}
 use Rattle.ep_law.proofs.DeathLemmas.{get_other}
 use Rattle.ep_machine.specs.Files.{Files, is_live, object_of, Place, named_by, object_at, object_number, object_under, place_of, side_under, with_object}
 use Rattle.ep_machine.specs.Lists.{numbered}
-use Rattle.ep_machine.specs.Objects.{is_instance, plain, Object, ObjectCall, close_end, is_plain, object_effect}
+use Rattle.ep_machine.specs.Objects.{is_instance, plain, Object, ObjectCall, close_end, is_plain, object_effect, is_waiting}
 use Rattle.ep_object.proofs.KindLemmas.{call_keeps_instance, close_keeps_instance}
 use Rattle.std.proofs.lemmas.Bool.{cases_Bool, false_from_ne_true, false≢true}
 use Rattle.std.proofs.lemmas.List.{get_or_append_left, length_push, length-set}
@@ -16,6 +16,12 @@ use Rattle.ep_machine.specs.Deaths.{die, die_all, kept_object}
 use Rattle.ep_machine.specs.Tables.{affected, create_one, create_two, describe, new_object}
 use Rattle.ep_machine.specs.Effect.{first}
 use Rattle.ep_law.specs.Laws.{has_instance}
+use Rattle.ep_machine.specs.Connections.{with_pending, without_pending, accepted, accept, join, let_go, let_all_go, first_waiting}
+use Rattle.ep_machine.specs.Unconnected.{Idle}
+use Rattle.ep_base.specs.declared.socket.Name.{Name}
+use Rattle.std.proofs.Common.{◌||◌}
+use Rattle.ep_object.proofs.ConnectionLemmas.{instance_by_kind, without_kind, accepted_kind, pending_kind, waiting_instance, waiting_plain, by_test}
+use Rattle.ep_object.specs.Connecting.{connection}
 
 -- each place is of an object that was made
 abbrev pub AreMade : Files → Type 0
@@ -67,7 +73,7 @@ narrows_trans f g h a b =
     }
 
 -- Objects.
-abbrev is_instance_at : List (Option Object) → ℕ → Bool
+abbrev pub is_instance_at : List (Option Object) → ℕ → Bool
 is_instance_at os k = is_instance (unwrap_or (get_or os k None) plain)
 
 -- what gives way to an instance was one
@@ -102,6 +108,21 @@ narrows_with_object f k x b keep stay =
       dead = λ d lt h. h;
       stays = λ d h l. place_instance (with_object f k x) f (place_of f d) (λ j. set_stays f.objects k j (Some x) stay) h;
       first = λ h. let some = h.0 in (omega (arith, same, some), false_from_ne_true _ (λ t. false≢true (sym h.1 ∙ set_instance f.objects k 0 (Some x) keep t)));
+    }
+
+-- what gives way to another, and neither is an instance
+pub narrows_unlike : (f : Files) (k : ℕ) (o : Option Object) → AreMade f → is_instance_at f.objects k ≡ false → is_instance (unwrap_or o plain) ≡ false → Narrows f (record f { objects = set f.objects k o })
+narrows_unlike f k o b was is =
+    let g : Files = record f { objects = set f.objects k o } in
+    let same = length-set f.objects k o in
+    let none : is_instance (unwrap_or o plain) ≡ true → is_instance_at f.objects k ≡ true = λ h. absurd (false≢true (sym is ∙ h)) in
+    record {
+      longer = omega arith;
+      made = λ d p e. let lt = b d p e in omega (arith, same, lt);
+      instances = λ d lt h. place_instance f g (place_of f d) (λ j. set_instance f.objects k j o none) h;
+      dead = λ d lt h. h;
+      stays = λ d h l. place_instance g f (place_of f d) (λ j. set_stays f.objects k j o (λ t. absurd (false≢true (sym was ∙ t)))) h;
+      first = λ h. let some = h.0 in (omega (arith, same, some), false_from_ne_true _ (λ t. false≢true (sym h.1 ∙ set_instance f.objects k 0 o none t)));
     }
 
 -- A new object.
@@ -161,7 +182,7 @@ at_number : (f : Files) (o : Option Place) → is_instance (unwrap_or (object_at
 at_number f None h = absurd (false≢true h)
 at_number f (Some p) h = h
 
-from_number : (f : Files) (o : Option Place) → FirstIsNone f → is_instance_at f.objects (object_number o) ≡ true → is_instance (unwrap_or (object_at f o) plain) ≡ true
+pub from_number : (f : Files) (o : Option Place) → FirstIsNone f → is_instance_at f.objects (object_number o) ≡ true → is_instance (unwrap_or (object_at f o) plain) ≡ true
 from_number f None first h = absurd (false≢true (sym first.1 ∙ h))
 from_number f (Some p) first h = h
 
@@ -172,6 +193,72 @@ narrows_affected f p fd now asked b first =
     let o = place_of f (named_by f p fd) in
     let same = call_keeps_instance x e now asked in
     narrows_with_object f (object_number o) (object_effect x e now asked).1 b (λ h. at_number f o (sym same ∙ h)) (λ h. same ∙ from_number f o first h)
+
+-- Connections make no instances.
+-- what isn't plain was made
+pub made_below : (os : List (Option Object)) (k : ℕ) → is_plain (unwrap_or (get_or os k None) plain) ≡ false → k < length os
+made_below [] k h = absurd (false≢true (sym h))
+made_below (x ∷ os) zero h = omega arith
+made_below (x ∷ os) (suc k) h = let lt = made_below os k h in omega (arith, lt)
+
+abbrev content : Files → ℕ → Object
+content f k = unwrap_or (get_or f.objects k None) plain
+
+-- x stands at k, and gives way to another that is an instance if x is
+narrows_alike : (f : Files) (k : ℕ) (y : Object) → AreMade f → is_instance y ≡ is_instance (content f k) → Narrows f (with_object f k y)
+narrows_alike f k y b same = narrows_with_object f k y b (λ h. sym same ∙ h) (λ h. same ∙ h)
+
+-- one that waits is let go
+closed_instance : (b : Bool) (x : Object) → is_instance x ≡ false → is_instance (unwrap_or (if b then Some (close_end x Second).0 else None) plain) ≡ false
+closed_instance true x h = close_keeps_instance x Second ∙ h
+closed_instance false x h = refl
+
+narrows_let_go : (f : Files) (raised : List (ℕ × ℕ)) (k : ℕ) → AreMade f → Narrows f (let_go (f, raised) k).0
+narrows_let_go f raised k b =
+    by_test (λ (now : Files × List (ℕ × ℕ)). Narrows f now.0) (is_waiting (content f k)) _ (f, raised)
+    (λ w. let none = waiting_instance (content f k) w in narrows_unlike f k _ b none (closed_instance _ (content f k) none))
+    (λ w. narrows_self f b)
+
+pub narrows_all_go : (f : Files) (raised : List (ℕ × ℕ)) (ks : List ℕ) → AreMade f → Narrows f (let_all_go (f, raised) ks).0
+narrows_all_go f raised [] b = narrows_self f b
+narrows_all_go f raised (k ∷ ks) b =
+    let one = narrows_let_go f raised k b in
+    let next = let_go (f, raised) k in
+    narrows_trans f next.0 (let_all_go next ks).0 one (narrows_all_go next.0 next.1 ks one.made)
+
+-- one is accepted
+pub first_waits : (f : Files) (ks : List ℕ) (k : ℕ) → first_waiting f ks ≡ Some k → is_waiting (content f k) ≡ true
+first_waits f [] k h = cc
+first_waits f (j ∷ ks) k h =
+    by_test (λ (o : Option ℕ). o ≡ Some k → is_waiting (content f k) ≡ true) (is_waiting (content f j)) (Some j) (first_waiting f ks)
+    (λ w e. let same : j ≡ k = cc in subst (λ (n : ℕ). is_waiting (content f n) ≡ true) same w)
+    (λ w e. first_waits f ks k e) h
+
+pub narrows_accept : (f : Files) (p m k : ℕ) (cloexec : Bool) → AreMade f → is_waiting (content f k) ≡ true → Narrows f (accept f p m (Some k) cloexec)
+narrows_accept f p m k cloexec b waits =
+    let left = with_object f m (without_pending k (content f m)) in
+    let made = with_object left k (accepted (content f k)) in
+    let one = narrows_alike f m (without_pending k (content f m)) b (instance_by_kind (content f m) (without_pending k (content f m)) (without_kind k (content f m))) in
+    let none = waiting_instance (content f k) waits in
+    let two = narrows_unlike left k (Some (accepted (content f k))) one.made
+    (false_from_ne_true _ (λ h. false≢true (sym none ∙ set_instance f.objects m k (Some (without_pending k (content f m))) (λ i. sym (instance_by_kind (content f m) (without_pending k (content f m)) (without_kind k (content f m))) ∙ i) h)))
+    (instance_by_kind (content f k) (accepted (content f k)) (accepted_kind (content f k)) ∙ none) in
+    let lt = made_below f.objects k (waiting_plain (content f k) waits) in
+    let same = length-set f.objects m (Some (without_pending k (content f m))) in
+    let more = length-set left.objects k (Some (accepted (content f k))) in
+    narrows_trans f made (accept f p m (Some k) cloexec) (narrows_trans f left made one two) (narrows_describe made p k Second cloexec (omega (arith, lt, same, more)) two.made)
+
+-- one joins who listens
+pub narrows_join : (capacity : ℕ) (f : Files) (k m : ℕ) (x : Idle) (name : Name) → AreMade f → is_instance_at f.objects k ≡ false → Narrows f (join capacity f k x name m).0
+narrows_join capacity f k m x name b none =
+    let joins = connection capacity x name in
+    let connected = with_object f k joins in
+    let one = narrows_unlike f k (Some joins) b none refl in
+    let there : is_instance (with_pending k (content f m)) ≡ true → is_instance_at connected.objects m ≡ true = λ h.
+    set_stays f.objects k m (Some joins) (λ t. absurd (false≢true (sym none ∙ t))) (sym (instance_by_kind (content f m) (with_pending k (content f m)) (pending_kind k (content f m))) ∙ h) in
+    let back : is_instance_at connected.objects m ≡ true → is_instance (with_pending k (content f m)) ≡ true = λ h.
+    instance_by_kind (content f m) (with_pending k (content f m)) (pending_kind k (content f m)) ∙ set_instance f.objects k m (Some joins) (λ t. absurd (false≢true t)) h in
+    narrows_trans f connected (join capacity f k x name m).0 one (narrows_with_object connected m (with_pending k (content f m)) one.made there back)
 
 -- Deaths.
 -- an object that a description names is kept
@@ -227,7 +314,7 @@ module _ (f : Files) (x : ℕ × Place) (b : AreMade f) where
     | inl same ↦
         let named : list_any (λ y. y.1.object == k) (numbered 0 rest.descriptions) ≡ true = subst (λ (i : ℕ). list_any (λ y. y.1.object == i) (numbered 0 rest.descriptions) ≡ true) (sym same) (still_named 0 rest.descriptions d p e) in
         set_stays f.objects k p.object (kept_object rest k shut) (λ t.
-        ap (λ (b : Bool). is_instance (unwrap_or (if b then Some shut else None) plain)) named ∙ (close_keeps_instance (unwrap_or (get_or f.objects k None) plain) x.1.side ∙ t)) h
+        ap (λ (b : Bool). is_instance (unwrap_or (if b || is_waiting shut then Some shut else None) plain)) named ∙ (close_keeps_instance (unwrap_or (get_or f.objects k None) plain) x.1.side ∙ t)) h
     | inr apart ↦ ap (λ (o : Option Object). is_instance (unwrap_or o plain)) (get_other f.objects k p.object (kept_object rest k shut) apart) ∙ h
   ]
 

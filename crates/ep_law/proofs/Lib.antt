@@ -16,6 +16,7 @@ pub mod MaskLemmas
 pub mod ReachLemmas
 pub mod EndLemmas
 pub mod RaiseLemmas
+pub mod ReplaceLemmas
 pub mod ChangeLemmas
 pub mod BeginningLemmas
 pub mod GuardLemmas

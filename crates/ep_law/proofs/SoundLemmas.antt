@@ -13,7 +13,7 @@ use Rattle.ep_base.specs.declared.call.Event.TheVariants.{Call as CallOf, Resume
 use Rattle.ep_base.specs.declared.errno.Errno.{Errno}
 use Rattle.ep_base.specs.declared.record.Record.{Record}
 use Rattle.ep_machine.specs.Run.{run}
-use Rattle.ep_law.proofs.StepLemmas.{left_after, resumes, run_keeps}
+use Rattle.ep_law.proofs.StepLemmas.{left_after, resumes, run_keeps, only_files}
 use Rattle.ep_machine.specs.Bits.{ONESHOT, has_bit}
 use Rattle.ep_machine.specs.Deaths.{buried, die_all, dying, is_kept, without_dead_watches}
 use Rattle.ep_machine.specs.Effect.{first}
@@ -30,6 +30,8 @@ use Rattle.ep_machine.specs.Step.{next_event, call_change, change, refused_or, s
 use Rattle.ep_machine.specs.Waits.{leave_after, wait, wait_for}
 use Rattle.ep_machine.specs.Watches.{ctl, has_key, is_add, is_del, modified, new_watch, number_in, with_watch}
 use Rattle.ep_law.proofs.PickLemmas.{distinct_filter, numbers}
+use Rattle.ep_machine.specs.Objects.{asks}
+use Rattle.std.proofs.Common.{sym, subst}
 
 -- the same registrations in another state
 same_watches : (s t : State) → t.watches ≡ s.watches → t.added ≡ s.added → t.n ≡ s.n → Sound s → Sound t
@@ -157,7 +159,9 @@ sound_ctl s p epfd op fd mask tag h =
 fine_call : (limits : Limits) (s : State) (caller p : ℕ) (call : Call) (ks : List ℕ) → Sound s → Fine (call_change limits s caller p call ks)
 fine_call limits s caller p (EpollCtl epfd op fd mask tag) ks h = fine_plainly ks _ (sound_ctl s p epfd.0 op fd.0 mask.0 tag h)
 fine_call limits s caller p (EpollWait epfd most timeout) ks h = fine_wait s caller p (named_by s.files p epfd.0) (number_in most) timeout ks h
-fine_call limits s caller p call ks h = fine_plainly ks _ (same_watches s _ refl refl refl h)
+fine_call limits s caller p call ks h =
+    let only = only_files limits s p call (asks s.files.objects call) in
+    fine_plainly ks _ (subst Sound (sym only.1) (same_watches s (record s { files = only.0 }) refl refl refl h))
 
 fine_left : (caller : ℕ) (o : Option Change) → Fine o → Fine (leave_after caller o)
 unfolding Fine

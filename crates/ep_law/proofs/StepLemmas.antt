@@ -15,7 +15,7 @@ use Rattle.ep_machine.specs.Settle.{settle}
 use Rattle.ep_machine.specs.State.{Change, State, opening, Waiter}
 use Rattle.ep_machine.specs.Tables.{same_number}
 use Rattle.ep_machine.specs.Refusal.{refusals}
-use Rattle.ep_machine.specs.Step.{step, next_event, change, refused_or, settled}
+use Rattle.ep_machine.specs.Step.{step, next_event, change, refused_or, settled, change_on, object_change}
 use Rattle.ep_machine.specs.Run.{run, run_on, go_on, checked, same_answer, same_list, same_report}
 use Rattle.ep_machine.specs.Readiness.{is_ready}
 use Rattle.ep_machine.specs.Report.{plainly, report, is_pick}
@@ -23,8 +23,13 @@ use Rattle.ep_machine.specs.Waits.{is_due, leave, leave_after, resume, resume_by
 use Rattle.std.proofs.lemmas.Bool.Decides.{nat_tests}
 use Rattle.std.proofs.lemmas.Option.{none-some}
 use Rattle.ep_facts.proofs.NatFacts.{same_nat}
-use Rattle.ep_machine.specs.Files.{named_by}
+use Rattle.ep_machine.specs.Files.{named_by, Files}
 use Rattle.ep_machine.specs.Watches.{is_add, is_del, number_in}
+use Rattle.ep_law.proofs.ShapeLemmas.{by_joined}
+use Rattle.ep_machine.specs.Objects.{asks, ObjectCall}
+use Rattle.ep_base.specs.declared.ids.Fd.{Fd}
+use Rattle.ep_base.specs.declared.call.Call.{Call}
+use Rattle.std.proofs.Common.{sym}
 
 -- Steps and runs.
 
@@ -173,6 +178,11 @@ keeps_left m caller (Some c) h = keeps_some m (leave caller c) (h c refl)
 keeps_report : (s : State) (e most : ℕ) (ks : List ℕ) → Keeps s.n (report s e most ks)
 keeps_report s e most ks = keeps_if s.n (is_pick s e most ks) _ None (keeps_some s.n _ refl) (keeps_none s.n)
 
+-- a call on an object or on the tables changes the files only
+pub only_files : (limits : Limits) (s : State) (p : ℕ) (call : Call) (on : Option (Fd × ObjectCall)) → (g : Files) × ((change_on limits s p call on).1 ≡ record s { files = g })
+only_files limits s p call (Some on) = by_joined limits p (λ c. (g : Files) × (c.1 ≡ record s { files = g })) call (object_change s p on.0.0 on.1) (_, refl) (λ fd name x m same is at unix. (_, refl))
+only_files limits s p call None = (_, refl)
+
 pub change_n : (limits : Limits) (s : State) (caller : ℕ) (event : Event) (ks : List ℕ) → Keeps s.n (change limits s caller event ks)
 change_n limits s caller (CallOf p (EpollCtl epfd op fd mask tag)) ks = keeps_plainly s.n ks _ (same_if s.n (is_add op) (is_del op) _ _ _ refl refl refl)
 change_n limits s caller (CallOf p (EpollWait epfd most timeout)) ks =
@@ -180,7 +190,7 @@ change_n limits s caller (CallOf p (EpollWait epfd most timeout)) ks =
     keeps_if s.n (is_ready s e) (report s e (number_in most) ks) (plainly ks (wait_for s caller p.0 e (number_in most) timeout))
     (keeps_report s e (number_in most) ks)
     (keeps_plainly s.n ks _ (wait_for_n s caller p.0 e (number_in most) timeout))
-change_n limits s caller (CallOf p call) ks = keeps_plainly s.n ks _ refl
+change_n limits s caller (CallOf p call) ks = keeps_plainly s.n ks _ (ap (λ (t : State). t.n) (only_files limits s p.0 call (asks s.files.objects call)).1)
 change_n limits s caller Resume ks = resumes (Keeps s.n) s caller ks (keeps_plainly s.n ks _ refl) (λ w. keeps_left s.n w.caller _ (keeps_report s w.instance w.most ks)) (λ w. keeps_plainly s.n ks _ refl) (λ w. keeps_plainly s.n ks _ refl)
 change_n limits s caller (Tick k) ks = keeps_plainly s.n ks _ refl
 

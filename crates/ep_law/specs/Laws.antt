@@ -14,7 +14,7 @@ use Rattle.ep_machine.specs.Exclusive.{is_guarded, is_spread_plainly, is_spread_
 use Rattle.ep_machine.specs.Files.{Files, Place, is_live, object_of, place_of}
 use Rattle.ep_machine.specs.Lists.{are_distinct, is_among}
 use Rattle.ep_machine.specs.Marks.{with_marks}
-use Rattle.ep_machine.specs.Objects.{is_instance, plain}
+use Rattle.ep_machine.specs.Objects.{is_instance, plain, is_plain}
 use Rattle.ep_machine.specs.Readiness.{is_ready, is_reportable, reportables, present}
 use Rattle.ep_machine.specs.Refusal.{refusals}
 use Rattle.ep_machine.specs.Run.{go_on, run}
@@ -26,6 +26,7 @@ use Rattle.ep_machine.specs.Waits.{is_marked_at, marked_if_due, waits_at}
 use Rattle.ep_machine.specs.Watches.{is_exclusive, is_legal, links}
 use Rattle.ep_machine.specs.Settle.{settle}
 use Rattle.ep_object.specs.Law.{object_has}
+use Rattle.std.specs.Prelude.{◌<◌, length}
 
 abbrev pub Member : {X : Type 0} → X → List X → Type 0
 Member x [] = ⊥
@@ -145,8 +146,10 @@ FairRounds = (limits : Limits) (past later : List Record) (s : State) (e k : ℕ
 abbrev pub spread_of : Change → ℕ → ℕ
 spread_of c d = let left = buried c.1 c.2 in spread left.0 (raised_alive left.0 left.1) d
 
--- each description has an end of an object of its own, and that end is there
+-- each description has an end of an object of its own, and that end is there; object 0 is the plain one of the opening
 pub record HaveOwnEnds (f : Files) : Type 0 where
+  pub made : (d : ℕ) (p : Place) → place_of f d ≡ Some p → p.object < length f.objects
+  pub first : (0 < length f.objects) × (is_plain (unwrap_or (slice_index_or f.objects 0 None) plain) ≡ true)
   pub apart : (d e : ℕ) (p : Place) → place_of f d ≡ Some p → place_of f e ≡ Some p → d ≡ e
   pub ends : (d : ℕ) (p : Place) → place_of f d ≡ Some p → object_has (unwrap_or (slice_index_or f.objects p.object None) plain) p.side ≡ true
 

@@ -1,9 +1,9 @@
 -- Descriptions that nothing names any more, and what goes with them.
 use Rattle.std.specs.List.{filter_map, list_any}
 use Rattle.std.specs.Prelude.{Bool, List, None, Option, Some, [], filter, if◌then◌else◌, map, not}
-use Rattle.std.specs.Prelude.{slice_index_or, slice_set, unwrap_or, ℕ, ◌&&◌, ◌++◌, ◌==◌, ◌∷◌}
-use Rattle.ep_machine.specs.Objects.{Object, close_end, plain}
-use Rattle.ep_machine.specs.Files.{Files, Place, Table, description_in, is_live, live, raised_at}
+use Rattle.std.specs.Prelude.{slice_set, ℕ, ◌&&◌, ◌++◌, ◌==◌, ◌||◌, ◌∷◌}
+use Rattle.ep_machine.specs.Objects.{Object, close_end, is_waiting}
+use Rattle.ep_machine.specs.Files.{Files, Place, Table, content_at, description_in, is_live, live, raised_at}
 use Rattle.ep_machine.specs.State.{State, Watch}
 use Rattle.ep_machine.specs.Lists.{is_among}
 
@@ -22,15 +22,15 @@ named s = named_in_tables s.files.tables ++ map (λ w. w.instance) s.waiters
 abbrev pub dying : State → List (ℕ × Place)
 dying s = let names = named s in filter (λ x. not (is_among names x.0)) (live s.files)
 
--- an object goes with its last description
+-- an object goes with its last description, unless it is a connection that somebody may accept
 abbrev pub kept_object : Files → ℕ → Object → Option Object
-kept_object s k x = if list_any (λ y. y.1.object == k) (live s) then Some x else None
+kept_object s k x = if list_any (λ y. y.1.object == k) (live s) || is_waiting x then Some x else None
 
 abbrev pub die : Files × List (ℕ × ℕ) → ℕ × Place → Files × List (ℕ × ℕ)
 die now x =
     let s = now.0 in
     let k = x.1.object in
-    let closed = close_end (unwrap_or (slice_index_or s.objects k None) plain) x.1.side in
+    let closed = close_end (content_at s k) x.1.side in
     let without = record s { descriptions = slice_set s.descriptions x.0 None } in
     (record without { objects = slice_set s.objects k (kept_object without k closed.0) }, now.1 ++ raised_at without k closed.1)
 

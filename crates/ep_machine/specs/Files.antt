@@ -95,6 +95,9 @@ object_under s p fd = unwrap_or (object_of s (named_by s p fd)) plain
 abbrev pub side_under : Files → ℕ → ℤ → End
 side_under s p fd = side_of s (named_by s p fd)
 
+abbrev pub content_at : Files → ℕ → Object
+content_at s k = unwrap_or (slice_index_or s.objects k None) plain
+
 abbrev pub with_object : Files → ℕ → Object → Files
 with_object s k x = record s { objects = slice_set s.objects k (Some x) }
 

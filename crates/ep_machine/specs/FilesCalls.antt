@@ -1,5 +1,5 @@
--- Calls on the tables alone: what refuses each, in order, its answer, and the files after it.
-use Rattle.std.specs.Prelude.{Bool, List, [], length, nat_le, not, true, ℕ, ℤ, ◌++◌, ◌||◌, ◌∷◌}
+-- Calls on the tables alone: what refuses each, in order, its answer, the files after it, and what it raises.
+use Rattle.std.specs.Prelude.{Bool, List, [], is_none, length, nat_le, not, ℕ, ℤ, ◌++◌, ◌||◌, ◌∷◌}
 use Rattle.ep_base.specs.Limits.{Limits}
 use Rattle.ep_base.specs.declared.answer.Answer.{Answer}
 use Rattle.ep_base.specs.declared.answer.Answer.TheVariants.{Done, Num}
@@ -9,7 +9,8 @@ use Rattle.ep_base.specs.declared.call.Call.TheVariants.{Pipe as PipeCall, Plain
 use Rattle.ep_base.specs.declared.errno.Errno.{Errno}
 use Rattle.ep_base.specs.declared.errno.Errno.TheVariants.{Eagain, Ebadf, Ebusy, Einval, Emfile}
 use Rattle.ep_base.specs.declared.socket.Family.{Family}
-use Rattle.ep_machine.specs.Files.{Files, named_by, names_nothing, numbers_of, object_under}
+use Rattle.ep_machine.specs.Connections.{accept, first_waiting, pending_in, without_abandoned}
+use Rattle.ep_machine.specs.Files.{Files, named_by, names_nothing, numbers_of, object_number, object_under, place_of}
 use Rattle.ep_machine.specs.Lists.{numbered}
 use Rattle.ep_machine.specs.Objects.{Object, counter, idle, instance, is_listener, of_socket, pair, pipe, plain, timer}
 use Rattle.ep_machine.specs.Pipe.{new_pipe}
@@ -24,13 +25,22 @@ pub record FilesCall : Type 0 where
   pub refusals : List (Bool × Errno)
   pub answer : Answer
   pub after : Files
+  pub raised : List (ℕ × ℕ)
+
+-- one that raises nothing
+abbrev pub quietly : List (Bool × Errno) → Answer → Files → FilesCall
+quietly refusals answer after = record { refusals = refusals; answer = answer; after = after; raised = [] }
+
+-- one that may take the last name of a listener, with which goes what waits there
+abbrev pub letting_go : List (Bool × Errno) → Answer → Files → FilesCall
+letting_go refusals answer after = let left = without_abandoned after in record { refusals = refusals; answer = answer; after = left.0; raised = left.1 }
 
 -- makes an object with one description, or with two
 abbrev pub one_of : Limits → Files → ℕ → Object → Bool → FilesCall
-one_of limits s p x cloexec = record { refusals = one_refusals limits s p; answer = answer_one s p; after = create_one s p x cloexec }
+one_of limits s p x cloexec = quietly (one_refusals limits s p) (answer_one s p) (create_one s p x cloexec)
 
 abbrev pub two_of : Limits → Files → ℕ → Object → Bool → FilesCall
-two_of limits s p x cloexec = record { refusals = two_refusals limits s p; answer = answer_two s p; after = create_two s p x cloexec }
+two_of limits s p x cloexec = quietly (two_refusals limits s p) (answer_two s p) (create_two s p x cloexec)
 
 abbrev pub pipe_of : Limits → Files → ℕ → Bool → FilesCall
 pipe_of limits s p cloexec = two_of limits s p (pipe (new_pipe limits.pipe_bytes)) cloexec
@@ -60,47 +70,37 @@ timerfd_of limits s p clock cloexec =
     record made { refusals = (not (is_clock clock), Einval) ∷ made.refusals }
 
 abbrev pub dup_of : Limits → Files → ℕ → ℤ → FilesCall
-dup_of limits s p fd = record {
-  refusals = (names_nothing s p fd, Ebadf) ∷ (nat_le limits.descriptors (one_free (numbers_of s p)), Emfile) ∷ [];
-  answer = answer_one s p;
-  after = dup s p (named_by s p fd);
-}
+dup_of limits s p fd =
+    quietly ((names_nothing s p fd, Ebadf) ∷ (nat_le limits.descriptors (one_free (numbers_of s p)), Emfile) ∷ []) (answer_one s p) (dup s p (named_by s p fd))
 
 abbrev pub dup2_of : Limits → Files → ℕ → ℤ → ℤ → FilesCall
-dup2_of limits s p fd to = record {
-  refusals = (names_nothing s p fd, Ebadf) ∷ (not (is_in_range limits to), Ebadf) ∷ [];
-  answer = Num (number_in to);
-  after = dup2 s p fd to (named_by s p fd);
-}
+dup2_of limits s p fd to =
+    letting_go ((names_nothing s p fd, Ebadf) ∷ (not (is_in_range limits to), Ebadf) ∷ []) (Num (number_in to)) (dup2 s p fd to (named_by s p fd))
 
 abbrev pub close_of : Files → ℕ → ℤ → FilesCall
-close_of s p fd = record { refusals = (names_nothing s p fd, Ebadf) ∷ []; answer = Done; after = close s p fd }
+close_of s p fd = letting_go ((names_nothing s p fd, Ebadf) ∷ []) Done (close s p fd)
 
 abbrev pub fork_of : Limits → Files → ℕ → FilesCall
-fork_of limits s p = record {
-  refusals = (nat_le limits.processes (length (numbered 0 s.tables)), Eagain) ∷ [];
-  answer = Num (length s.tables);
-  after = fork s p;
-}
+fork_of limits s p = quietly ((nat_le limits.processes (length (numbered 0 s.tables)), Eagain) ∷ []) (Num (length s.tables)) (fork s p)
 
 -- busy: some caller of the process is parked
 abbrev pub exec_of : Files → ℕ → Bool → FilesCall
-exec_of s p busy = record { refusals = (busy, Ebusy) ∷ []; answer = Done; after = exec s p }
+exec_of s p busy = letting_go ((busy, Ebusy) ∷ []) Done (exec s p)
 
 abbrev pub exit_of : Files → ℕ → Bool → FilesCall
-exit_of s p busy = record { refusals = (busy, Ebusy) ∷ []; answer = Done; after = exit s p }
+exit_of s p busy = letting_go ((busy, Ebusy) ∷ []) Done (exit s p)
 
--- Nothing waits at a listener yet. Linux tells of a full table before it looks at what the descriptor names.
-abbrev pub accept_of : Limits → Files → ℕ → ℤ → FilesCall
-accept_of limits s p fd =
-    let x = object_under s p fd in record {
-      refusals =
-          (names_nothing s p fd, Ebadf)
-          ∷ (nat_le limits.descriptors (one_free (numbers_of s p)), Emfile)
-          ∷ of_socket x (one_refusals limits s p ++ (not (is_listener x), Einval) ∷ (true, Eagain) ∷ []);
-      answer = Done;
-      after = s;
-    }
+-- Linux tells of a full table before it looks at what the descriptor names.
+abbrev pub accept_of : Limits → Files → ℕ → ℤ → Bool → FilesCall
+accept_of limits s p fd cloexec =
+    let x = object_under s p fd in
+    let found = first_waiting s (pending_in x) in
+    quietly
+    ((names_nothing s p fd, Ebadf)
+    ∷ (nat_le limits.descriptors (one_free (numbers_of s p)), Emfile)
+    ∷ of_socket x (one_refusals limits s p ++ (not (is_listener x), Einval) ∷ (is_none found, Eagain) ∷ []))
+    (answer_one s p)
+    (accept s p (object_number (place_of s (named_by s p fd))) found cloexec)
 
 -- a call on the tables alone; any other does nothing here
 abbrev pub files_call : Limits → Files → ℕ → Bool → Call → FilesCall
@@ -117,5 +117,5 @@ files_call limits s p busy Fork = fork_of limits s p
 files_call limits s p busy Exec = exec_of s p busy
 files_call limits s p busy Exit = exit_of s p busy
 files_call limits s p busy (Socket family cloexec) = socket_of limits s p family cloexec
-files_call limits s p busy (Accept fd cloexec) = accept_of limits s p fd.0
-files_call limits s p busy call = record { refusals = []; answer = Done; after = s }
+files_call limits s p busy (Accept fd cloexec) = accept_of limits s p fd.0 cloexec
+files_call limits s p busy call = quietly [] Done s

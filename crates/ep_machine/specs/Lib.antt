@@ -21,6 +21,7 @@ pub mod Waits
 pub mod Exclusive
 pub mod Marks
 pub mod Deaths
+pub mod Connections
 pub mod Settle
 pub mod FilesCalls
 pub mod Refusal

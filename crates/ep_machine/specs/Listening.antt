@@ -1,4 +1,4 @@
--- Sockets that listen. Nobody gets through to one yet, so nothing waits there to be accepted.
+-- Sockets that listen, and what waits there to be accepted.
 use Rattle.std.specs.Prelude.{Bool, List, Option, [], is_none, min, nat_lt, negsuc, not, pos, true, ℕ, ℤ, ◌&&◌, ◌++◌, ◌∷◌}
 use Rattle.ep_base.specs.declared.errno.Errno.{Errno}
 use Rattle.ep_base.specs.declared.errno.Errno.TheVariants.{Eaddrinuse, Econnrefused, Einval, Eisconn}
@@ -6,6 +6,7 @@ use Rattle.ep_base.specs.declared.socket.Family.{Family}
 use Rattle.ep_base.specs.declared.socket.Family.TheVariants as families
 use Rattle.ep_base.specs.declared.socket.Name.{Name}
 use Rattle.ep_base.specs.declared.socket.Space.{Space}
+use Rattle.ep_machine.specs.Bits.{IN, when}
 use Rattle.ep_machine.specs.Lists.{is_empty}
 use Rattle.ep_machine.specs.Sockets.{is_tcp}
 use Rattle.ep_machine.specs.Unconnected.{Idle, family_refusals, name_or, unread_error, unwritten_error}
@@ -14,6 +15,7 @@ pub record Listener : Type 0 where
   pub family : Family
   pub name : Name
   pub backlog : ℕ
+  pub pending : List ℕ  -- the numbers of the connections that came, the first of them first
 
 -- as many may wait; a negative number asks for the most
 abbrev pub greatest_backlog : ℕ
@@ -31,13 +33,17 @@ idle_listen_refusals x found =
     ∷ (is_none (name_or x.name found), Eaddrinuse) ∷ []
 
 abbrev pub new_listener : Family → Name → ℤ → Listener
-new_listener family name backlog = record { family = family; name = name; backlog = backlog_of backlog }
+new_listener family name backlog = record { family = family; name = name; backlog = backlog_of backlog; pending = [] }
 
 -- A listener once more: what may wait there is another number.
 abbrev pub listener_listen : Listener → ℤ → Listener
 listener_listen x backlog = record x { backlog = backlog_of backlog }
 
--- Nothing ever comes to it, or goes from it.
+-- it can be read once something waits there
+abbrev pub listener_present : Listener → ℕ
+listener_present x = when (not (is_empty x.pending)) IN
+
+-- No bytes ever come to it, or go from it.
 abbrev pub listener_read_refusals : Listener → ℕ → List (Bool × Errno)
 listener_read_refusals x n = (nat_lt 0 n, unread_error x.family) ∷ []
 

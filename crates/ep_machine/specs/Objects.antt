@@ -1,6 +1,6 @@
 -- The eight kinds of object. What an instance shows is judged in Readiness.
 use Rattle.std.specs.List.{list_any}
-use Rattle.std.specs.Prelude.{Bool, List, None, Option, Some, [], false, length, not, true, ℕ, ℤ, ◌++◌, ◌||◌, ◌∷◌}
+use Rattle.std.specs.Prelude.{Bool, List, None, Option, Some, [], false, length, not, true, ℕ, ℤ, ◌&&◌, ◌++◌, ◌||◌, ◌∷◌}
 use Rattle.ep_base.specs.declared.answer.Answer.TheVariants.{Bytes, Done, Named, Num}
 use Rattle.ep_base.specs.declared.call.Call.{Call}
 use Rattle.ep_base.specs.declared.call.Call.TheVariants.{Bind, Connect, GetTime, Listen, Peek, Read, SetTime, Shutdown, SocketName, TakeError, Write}
@@ -18,7 +18,7 @@ use Rattle.ep_machine.specs.Bits.{nothing}
 use Rattle.ep_machine.specs.Counters.{Counter, counter_present, counter_read, counter_read_refusals, counter_write, counter_write_refusals}
 use Rattle.ep_machine.specs.Effect.{Effect}
 use Rattle.ep_machine.specs.Listening.{Listener, idle_listen_refusals, listener_bind_refusals, listener_connect_refusals, listener_listen}
-use Rattle.ep_machine.specs.Listening.{listener_read_refusals, listener_write_refusals, new_listener}
+use Rattle.ep_machine.specs.Listening.{listener_present, listener_read_refusals, listener_write_refusals, new_listener}
 use Rattle.ep_machine.specs.Names.{free_name, given, is_there, same_name}
 use Rattle.ep_machine.specs.Pipe.{Pipe, pipe_close, pipe_present, pipe_read, pipe_read_refusals, pipe_write, pipe_write_refusals}
 use Rattle.ep_machine.specs.Sockets.{SocketPair, pair_close, pair_name, pair_name_refusals, pair_peek, pair_present, pair_read, pair_read_refusals}
@@ -60,6 +60,11 @@ is_listener x = false
 abbrev pub is_socket : Object → Bool
 is_socket x = is_pair x || is_idle x || is_listener x
 
+-- a connection whose second end nobody has yet: it waits at a listener
+abbrev pub is_waiting : Object → Bool
+is_waiting (pair p) = not p.is_accepted && not p.second_end.is_closed
+is_waiting x = false
+
 abbrev pub is_timer : Object → Bool
 is_timer (timer t) = true
 is_timer x = false
@@ -70,7 +75,7 @@ object_present plain e now = 0
 object_present (pipe p) e now = pipe_present p e
 object_present (pair p) e now = pair_present p e
 object_present (idle i) e now = idle_present i
-object_present (listener l) e now = 0
+object_present (listener l) e now = listener_present l
 object_present (counter c) e now = counter_present c
 object_present (timer t) e now = timer_present t now
 object_present instance e now = 0

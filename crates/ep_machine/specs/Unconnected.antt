@@ -12,7 +12,7 @@ use Rattle.ep_machine.specs.Bits.{ERR, HUP, IN, OUT, RDHUP, nothing, raises, uni
 use Rattle.ep_machine.specs.Effect.{Effect}
 use Rattle.ep_machine.specs.Lists.{is_empty}
 use Rattle.ep_machine.specs.Names.{fits_family}
-use Rattle.ep_machine.specs.Sockets.{error_code}
+use Rattle.ep_machine.specs.Sockets.{error_code, is_tcp}
 
 pub record Idle : Type 0 where
   pub family : Family
@@ -99,8 +99,10 @@ connect_refusals_of families.Tcp x space found heard =
 abbrev pub idle_connect_refusals : Idle → Space → Option Name → Bool → List (Bool × Errno)
 idle_connect_refusals x space found heard = connect_refusals_of x.family x space found heard
 
--- TCP has failed when the call returns, tells so once, and then the socket is fresh again.
+-- What it does to the socket itself. TCP has failed when the call returns, tells so once, and then the socket is fresh
+-- again. Of Unix the connection that is made is all.
 abbrev pub idle_connect : Idle → Option Name → Effect Idle
 idle_connect x found =
-    if x.has_failed then (Failed (unwrap_or x.error Econnaborted), record x { has_failed = false; error = None }, nothing)
+    if not (is_tcp x.family) then (Done, x, nothing)
+    else if x.has_failed then (Failed (unwrap_or x.error Econnaborted), record x { has_failed = false; error = None }, nothing)
     else (Connecting, idle_failed (record x { name = name_or x.name found }), raises failed_bits 0)

@@ -77,7 +77,7 @@ write_few : (x : Object) (e : End) (bytes : List ℕ) (most : ℕ) → GivesAtMo
 write_few x e bytes most = by_write (GivesAtMost most) (λ k. tt) (λ error. tt) tt x e bytes
 
 connect_few : (x : Object) (found : Option Name) (most : ℕ) → GivesAtMost most (connect x found).0
-connect_few (idle i) found most = by_connect i (λ f. GivesAtMost most f.0) found tt tt
+connect_few (idle i) found most = by_connect i (λ f. GivesAtMost most f.0) found tt tt tt
 connect_few x found most = tt
 
 pub gives_few : (x : Object) (e : End) (now : ℕ) (asked : ObjectCall) → first (object_refusals x e now asked) ≡ None → GivesAtMost (min (asked_of asked) (max 16 (object_waiting x e asked))) (object_effect x e now asked).0

@@ -30,7 +30,7 @@ use Rattle.ep_object.proofs.IdleLemmas.{Raises, connect_raises, read_raises, sta
 use Rattle.ep_object.specs.Law.{AdvanceLaw, ApplyLaw, CloseLaw, is_first, object_has, present_at}
 use Rattle.ep_stream.proofs.Arrivals.{attempted, unchanged}
 use Rattle.ep_stream.specs.Law.{PairCloseLaw, PairErrorLaw, PairPeekLaw, PairReadLaw, PairShutdownLaw, PairWriteLaw, PipeCloseLaw, PipeReadLaw, PipeWriteLaw, RaisesArrivals, pair_has}
-use Rattle.ep_machine.specs.Listening.{listener_read_refusals, listener_write_refusals, idle_listen_refusals}
+use Rattle.ep_machine.specs.Listening.{listener_read_refusals, listener_write_refusals, idle_listen_refusals, listener_present}
 
 -- what an event leaves as it was raises enough
 stays : (now : ℕ) (x : Object) (raised : Raised) → RaisesArrivals object_has (present_at now) x x raised
@@ -131,7 +131,7 @@ listens_law now i backlog (Some name) None = λ e before after. none_begin (idle
 listen_law : (backlog : ℤ) (found : Option Name) (now : ℕ) → CallLaw (λ x. of_socket x (listen_refusals x found)) (λ x. listen x backlog found) now
 listen_law backlog found now (pair p) = kept_law now (pair p) Done (first (of_socket (pair p) (listen_refusals (pair p) found)))
 listen_law backlog found now (idle i) = listens_law now i backlog (name_or i.name found) (first (idle_listen_refusals i found))
-listen_law backlog found now (listener l) = λ e before after. unchanged 0 (at_end nothing e)
+listen_law backlog found now (listener l) = λ e before after. unchanged (listener_present l) (at_end nothing e)
 listen_law backlog found now x = stays now x nothing
 
 connect_law : (space : Space) (found : Option Name) (heard : Bool) (now : ℕ) → CallLaw (λ x. of_socket x (connect_refusals x space found heard)) (λ x. connect x found) now
@@ -193,7 +193,7 @@ advance_law timers plain old new e has = unchanged 0 0
 advance_law timers (pipe p) old new e has = unchanged (pipe_present p e) _
 advance_law timers (pair p) old new e has = unchanged (pair_present p e) _
 advance_law timers (idle i) old new e has = unchanged (idle_present i) _
-advance_law timers (listener l) old new e has = unchanged 0 0
+advance_law timers (listener l) old new e has = unchanged (listener_present l) _
 advance_law timers (counter c) old new e has = unchanged (counter_present c) _
 advance_law timers (timer t) old new First has = timers t old new
 advance_law timers (timer t) old new Second has = absurd (false≢true has)

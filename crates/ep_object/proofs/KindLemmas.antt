@@ -1,5 +1,5 @@
 -- What calls and closes keep of an object: its kind, and the ends that it has.
-use Rattle.std.proofs.Common.{◌≡◌, ◌≢◌, ◌==◌, ◌&&◌, ◌∙◌, ℕ, Bool, true, List, None, Some, ap, not, refl, sym, ℤ, Option}
+use Rattle.std.proofs.Common.{◌≡◌, ◌≢◌, ◌==◌, ◌&&◌, ◌∙◌, ℕ, Bool, true, List, None, Some, ap, not, refl, sym, ℤ, Option, false}
 use Rattle.ep_base.specs.declared.object.End.{End}
 use Rattle.ep_base.specs.declared.object.End.TheVariants.{First, Second}
 use Rattle.std.specs.Prelude.{if◌then◌else◌}
@@ -16,6 +16,7 @@ use Rattle.ep_stream.proofs.PairClosed.{by_first_close, either, pair_closed_twic
 use Rattle.ep_stream.specs.Law.{pair_has}
 use Rattle.ep_machine.specs.Unconnected.{Idle, name_or}
 use Rattle.ep_base.specs.declared.socket.Name.{Name}
+use Rattle.std.proofs.lemmas.Bool.{false≢true}
 
 -- Kinds.
 listening_kind : (i : Idle) (backlog : ℤ) (name : Option Name) → kind_number (listening i backlog name) ≡ 6
@@ -99,7 +100,7 @@ peek_has x e n s = refl
 -- a reset closes nothing
 sent_back_has : (p : SocketPair) (e s : End) → Keeps p s (sent_back p e)
 sent_back_has p First First = refl
-sent_back_has p First Second = either (λ (x : Socket). not x.is_closed ≡ not p.second_end.is_closed) p.second_end.is_closed _ _ refl refl
+sent_back_has p First Second = either (λ (x : Socket). (p.is_accepted && not x.is_closed) ≡ (p.is_accepted && not p.second_end.is_closed)) p.second_end.is_closed _ _ refl refl
 sent_back_has p Second First = either (λ (x : Socket). not x.is_closed ≡ not p.first_end.is_closed) p.first_end.is_closed _ _ refl refl
 sent_back_has p Second Second = refl
 
@@ -146,6 +147,10 @@ effect_has x e now (listens backlog found) s = listen_has x backlog found s
 effect_has plain e now asked s = refl
 effect_has x e now asked s = refl
 
+both_hold : (a b : Bool) → (a && b) ≡ true → (a ≡ true) × (b ≡ true)
+both_hold true b h = (refl, h)
+both_hold false b h = absurd (false≢true h)
+
 -- what is lost is told without closing anything
 told_has : (x : Socket) (b : Bool) → not x.is_closed ≡ true → not (if b then record x { error = Some Econnreset } else x).is_closed ≡ true
 told_has x b h = either (λ (y : Socket). not y.is_closed ≡ true) b _ _ h h
@@ -156,7 +161,9 @@ close_has (pipe p) First Second ne h = h
 close_has (pipe p) Second First ne h = h
 close_has (pipe p) Second Second ne h = absurd (ne refl)
 close_has (pair p) First First ne h = absurd (ne refl)
-close_has (pair p) First Second ne h = by_first_close (λ q. pair_has q Second ≡ true) p First h h h h (told_has p.second_end (loses p First) h)
+close_has (pair p) First Second ne h =
+    let both = both_hold p.is_accepted (not p.second_end.is_closed) h in
+    by_first_close (λ q. pair_has q Second ≡ true) p First both.1 h h h (rw (both.0) (told_has p.second_end (loses p First) both.1))
 close_has (pair p) Second First ne h = by_first_close (λ q. pair_has q First ≡ true) p Second h h h h (told_has p.first_end (loses p Second) h)
 close_has (pair p) Second Second ne h = absurd (ne refl)
 close_has x e s ne h = h

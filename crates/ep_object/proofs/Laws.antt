@@ -3,6 +3,7 @@ use Rattle.ep_object.proofs.AnswerLemmas.{gives_few, waiting_is_given}
 use Rattle.ep_object.proofs.Arrivals.{Kinds, advance_law, apply_law, close_law}
 use Rattle.ep_object.proofs.KindLemmas.{call_keeps_kind, close_has, close_keeps_kind, closes_commute, effect_has}
 use Rattle.ep_object.proofs.OwnEndLemmas.{call_ends_here_only, clock_ends_nothing, close_ends_nothing}
+use Rattle.ep_object.proofs.PendingLemmas.{call_keeps_pending, call_keeps_waiting, close_keeps_pending, close_leaves_accepted}
 use Rattle.ep_object.proofs.TimerLemmas.{call_keeps_timer, clock_is_timers, close_keeps_timer, next_tells, still_raises_nothing, timer_has_first}
 use Rattle.ep_object.specs.Law.{ObjectLaws}
 
@@ -13,6 +14,10 @@ object_laws kinds = record {
   call_keeps_ends = effect_has;
   close_keeps_other = close_has;
   closes_commute = closes_commute;
+  call_keeps_waiting = call_keeps_waiting;
+  close_leaves_accepted = close_leaves_accepted;
+  call_keeps_pending = call_keeps_pending;
+  close_keeps_pending = close_keeps_pending;
   call_raises = apply_law kinds;
   close_raises = close_law kinds.pipe_close kinds.pair_close;
   clock_raises = advance_law kinds.timer_advance;

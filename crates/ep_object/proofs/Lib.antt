@@ -1,13 +1,15 @@
 pub mod AnswerLemmas
 mod Arrivals
 pub mod BitLemmas
-mod IdleLemmas
+pub mod ConnectionLemmas
+pub mod IdleLemmas
 pub mod KindLemmas
 mod Laws
 pub mod NamingLemmas
 mod NeededLemmas
 pub mod OwnEndLemmas
 mod PairEndLemmas
+pub mod PendingLemmas
 pub mod RealLemmas
 pub mod StayLemmas
 pub mod TimerLemmas

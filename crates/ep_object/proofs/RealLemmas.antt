@@ -153,7 +153,7 @@ listen_real (idle i) backlog found = refl
 listen_real x backlog found = refl
 
 connect_real : (x : Object) (found : Option Name) → is_no_memory (connect x found).0 ≡ false
-connect_real (idle i) found = by_connect i IsReal found refl refl
+connect_real (idle i) found = by_connect i IsReal found refl refl refl
 connect_real x found = refl
 
 settime_real : (x : Object) (absolute : Bool) (value interval now : ℕ) → is_no_memory (settime x absolute value interval now).0 ≡ false

@@ -6,7 +6,8 @@ use Rattle.ep_base.specs.declared.object.End.TheVariants.{First, Second}
 use Rattle.ep_counters.specs.Law.{is_by}
 use Rattle.ep_machine.specs.Bits.{IN, IsCovered, at_end, raises, when}
 use Rattle.ep_machine.specs.Effect.{attempt, first}
-use Rattle.ep_machine.specs.Objects.{Object, ObjectCall, advance, close_end, object_effect, object_present, object_refusals, pair, pipe}
+use Rattle.ep_machine.specs.Connections.{pending_in}
+use Rattle.ep_machine.specs.Objects.{Object, ObjectCall, advance, close_end, is_waiting, object_effect, object_present, object_refusals, pair, pipe}
 use Rattle.ep_machine.specs.Timer.{Timer}
 use Rattle.ep_object.specs.Kinds.{kind_number}
 use Rattle.ep_object.specs.Memory.{GivesAtMost, asked_of, object_waiting}
@@ -71,6 +72,12 @@ pub record ObjectLaws : Type 0 where
       → object_has (object_effect x e now asked).1 o ≡ object_has x o
   pub close_keeps_other : (x : Object) (e o : End) → o ≢ e → IsTrue (object_has x o) → IsTrue (object_has (close_end x e).0 o)
   pub closes_commute : (x : Object) (a b : End) → (close_end (close_end x a).0 b).0 ≡ (close_end (close_end x b).0 a).0
+  -- neither lets a connection wait to be accepted, or changes what waits at a listener
+  pub call_keeps_waiting : (x : Object) (e : End) (now : ℕ) (asked : ObjectCall) → is_waiting (object_effect x e now asked).1 ≡ is_waiting x
+  pub close_leaves_accepted : (x : Object) (e : End) → is_waiting x ≡ false → is_waiting (close_end x e).0 ≡ false
+  pub call_keeps_pending : (x : Object) (e : End) (now : ℕ) (asked : ObjectCall)
+      → pending_in (object_effect x e now asked).1 ≡ pending_in x
+  pub close_keeps_pending : (x : Object) (e : End) → pending_in (close_end x e).0 ≡ pending_in x
   -- what begins to hold is raised
   pub call_raises : ApplyLaw
   pub close_raises : CloseLaw

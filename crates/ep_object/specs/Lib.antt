@@ -1,7 +1,9 @@
 pub mod Asked
+pub mod Connecting
 pub mod Content
 pub mod Kinds
 pub mod Memory
 pub mod Next
 pub mod Law
 pub mod Naming
+pub mod Quiet

@@ -3,19 +3,19 @@ ghost use Rattle.std.specs.Prelude.{◌≡◌, [], Some};
 ghost use Rattle.ep_base.specs.declared.answer.Answer.TheVariants.{Bytes, Num};
 ghost use Rattle.ep_machine.specs.Bits.{nothing};
 ghost use Rattle.ep_machine.specs.Effect.{attempt, first};
-ghost use Rattle.ep_machine.specs.Listening.{backlog_of, listener_bind_refusals, listener_connect_refusals, listener_listen, listener_read_refusals, listener_write_refusals, new_listener};
+ghost use Rattle.ep_machine.specs.Listening.{backlog_of, listener_bind_refusals, listener_connect_refusals, listener_listen, listener_present, listener_read_refusals, listener_write_refusals, new_listener};
 ghost use Rattle.ep_machine.specs.Objects.{listener};
 
 use crate::unconnected::{misfit_or, unheard_or, unread, unwritten};
-use ep_base::{Answer, Buffer, Bytes, Errno, Family, Name, Space};
+use ep_base::{Answer, Buffer, Bytes, Errno, Family, Mask, Name, Space};
 use std::alloc::Global;
 use std::marker::Model;
 
 /// The greatest backlog, as of Linux's net.core.somaxconn.
 const GREATEST_BACKLOG: u32 = 4096;
 
-/// A socket of a family that listens at its name, and how many connections may wait there, less one. With it goes the
-/// allocator of the answers that it gives.
+/// A socket of a family that listens at its name, and how many connections may wait there, less one. None waits yet.
+/// With it goes the allocator of the answers that it gives.
 #[derive(Drop)]
 pub(crate) struct Listener {
     alloc: Global,
@@ -29,10 +29,13 @@ impl Model for Listener {
 
     ghost Value = { Content };
 
+    ghost use Rattle.std.specs.Prelude.{[]};
+
     ghost view = { λ listener. record {
       family = listener.family;
       name = listener.name;
       backlog = listener.backlog;
+      pending = [];
     } };
 }
 
@@ -64,6 +67,21 @@ impl Listener {
         ensures { result ≡ self.now.name }
     {
         self.name
+    }
+
+    /// What always holds: no connection waits here.
+    pub(crate) fn is_quiet(&self)
+        ensures { self.now.pending ≡ [] }
+    {
+        let _ = &self.backlog;
+    }
+
+    /// The bits that hold: IN once a connection waits.
+    pub(crate) fn present(&self) -> Mask
+        ensures { result.0 ≡ listener_present self.now }
+    {
+        self.is_quiet();
+        Mask(0)
     }
 
     /// listen(2) once more.

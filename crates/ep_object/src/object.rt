@@ -16,6 +16,7 @@ ghost use Rattle.ep_object.specs.Asked.{IsOfSocket, found_in};
 ghost use Rattle.ep_object.specs.Memory.{asked_of, object_waiting};
 ghost use Rattle.ep_object.specs.Naming.{Gains, called};
 ghost use Rattle.ep_object.specs.Next.{IsNextMoment};
+ghost use Rattle.ep_object.specs.Quiet.{IsQuiet};
 
 use crate::listener::Listener;
 use crate::object_call::{NamingCall, ObjectCall};
@@ -184,16 +185,28 @@ impl Object {
         }
     }
 
+    /// What always holds: it is no connection that waits to be accepted, and none waits at it.
+    pub fn is_quiet(&self)
+        ensures { IsQuiet self.now }
+    {
+        match &self.kind {
+            Kind::Pair(pair) => pair.is_accepted(),
+            Kind::Listener(listener) => listener.is_quiet(),
+            _ => {}
+        }
+    }
+
     /// The bits that hold at this end at the moment `now`, as poll(2) would report them. None hold of
     /// a plain file or a listener, nor of an instance, which is judged by its registrations.
     pub fn present(&self, end: End, now: Moment) -> Mask
         ensures { result.0 ≡ object_present self.now end now }
     {
         match &self.kind {
-            Kind::Plain(_) | Kind::Listener(_) | Kind::Instance => Mask(0),
+            Kind::Plain(_) | Kind::Instance => Mask(0),
             Kind::Pipe(pipe) => pipe.present(end),
             Kind::Pair(pair) => pair.present(end),
             Kind::Idle(idle) => idle.present(),
+            Kind::Listener(listener) => listener.present(),
             Kind::Counter(counter) => counter.present(),
             Kind::Timer(timer) => timer.present(now),
         }

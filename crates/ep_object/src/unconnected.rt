@@ -260,6 +260,7 @@ impl Idle {
         found: Option<Name>,
         heard: bool,
     ) -> (Answer, Raised)
+        requires tcp { self.old.family ≡ Tcp }
         requires fresh { self.old.has_failed ≡ false }
         ensures { (result.0, self.new, result.1) ≡
             attempt (connect_refusals_of Tcp self.old space found heard) self.old (idle_connect self.old found) }

@@ -13,7 +13,6 @@ use Rattle.ep_law.proofs.RegularLemmas.{well_made_run}
 use Rattle.ep_law.proofs.BeginningLemmas.{present_other}
 use Rattle.ep_law.proofs.DeathLemmas.{raised_before}
 use Rattle.ep_law.proofs.EndLemmas.{object_there}
-use Rattle.ep_law.proofs.GraphLemmas.{linked_run}
 use Rattle.ep_law.proofs.ListLemmas.{all_member, one_number}
 use Rattle.ep_law.proofs.MaskLemmas.{asked_begins, none_or_some}
 use Rattle.ep_law.proofs.NamedLivesLemmas.{dying_distinct, dying_placed}
@@ -46,6 +45,7 @@ use Rattle.ep_order.proofs.OriginLemmas.{Origin, origins}
 use Rattle.ep_object.proofs.StayLemmas.{Stay, when_stays}
 use Rattle.ep_order.proofs.PresentLemmas.{Goes, Holds, change_goes, holds_deaths, holds_then}
 use Rattle.ep_order.proofs.StepLemmas.{stood}
+use Rattle.ep_object.specs.Law.{ApplyLaw, CloseLaw, AdvanceLaw}
 
 shows_own : (r : ℕ → Bool) (d : ℕ) (o : Option Object) (e : End) (now : ℕ) → (kind_of o ≡ 1 → ⊥) → present_of r d o e now ≡ object_present (unwrap_or o plain) e now
 shows_own r d o e now h = present_other r d o e now (instance_kind o ∙ test_apart (kind_of o) 1 h)
@@ -79,7 +79,7 @@ edge_stays true fresh still h e = h e
 edge_stays false fresh still h e = refl
 
 -- An event of a run.
-module _ (apart : EndsAreApart) (limits : Limits) (past : List Record) (s : State) (caller : ℕ) (event : Event) (picked : List ℕ) (c : Change) (is : run limits opening past ≡ Some s)
+module _ (apply : ApplyLaw) (close : CloseLaw) (clock : AdvanceLaw) (apart : EndsAreApart) (limits : Limits) (past : List Record) (s : State) (caller : ℕ) (event : Event) (picked : List ℕ) (c : Change) (is : run limits opening past ≡ Some s)
     (allowed : first (refusals limits (next_event s) caller event) ≡ None) (made : change limits (next_event s) caller event picked ≡ Some c) where
   abbrev b : State
   b = next_event s
@@ -100,7 +100,7 @@ module _ (apart : EndsAreApart) (limits : Limits) (past : List Record) (s : Stat
   filed = record { placed = rest.placed; lives = λ d e. sym (rest.named d) ∙ among_first (named_in_tables s.files.tables) (map (λ w. w.instance) s.waiters) d e }
 
   goes : Goes b event c.1
-  goes = change_goes limits b (apart limits past s is) (linked_run limits past s is).made filed caller event picked c allowed made
+  goes = change_goes apply close clock limits b (apart limits past s is) filed caller event picked c allowed made
 
   -- an instance stays one, and nothing else comes to be one
   kind_stays : (d : ℕ) → is_live t.files d ≡ true → can_be_watched (object_of s.files d) ≡ true → kind_of (object_of t.files d) ≡ kind_of (object_of s.files d)
@@ -173,6 +173,6 @@ module _ (apart : EndsAreApart) (limits : Limits) (past : List Record) (s : Stat
       let lives : is_live t.files x.target ≡ true = ap (λ (z : Watch). is_live t.files z.target) (sym same.1) ∙ steady.target_lives in
       ap (is_reportable_by later t) same.1 ∙ reportable_stays x there lives ready later h.uncalled h.below before
 
-pub untouched_stay_reportable : EndsAreApart → UntouchedStayReportable
-untouched_stay_reportable apart limits past s caller event picked c ready later x y is allowed made =
-    stays_reportable apart limits past s caller event picked c is allowed made ready later x y
+pub untouched_stay_reportable : ApplyLaw → CloseLaw → AdvanceLaw → EndsAreApart → UntouchedStayReportable
+untouched_stay_reportable apply close clock apart limits past s caller event picked c ready later x y is allowed made =
+    stays_reportable apply close clock apart limits past s caller event picked c is allowed made ready later x y

@@ -23,6 +23,9 @@ use Rattle.ep_machine.specs.Watches.{number_in}
 use Rattle.ep_order.proofs.MarkLemmas.{ctl_waiters, found_waiter, one_caller}
 use Rattle.ep_order.specs.Mark.{LeavesByResuming, LeavesResumed}
 use Rattle.ep_view.proofs.AtRestLemmas.{quiet_run}
+use Rattle.ep_law.proofs.StepLemmas.{only_files}
+use Rattle.ep_machine.specs.Objects.{asks}
+use Rattle.std.proofs.Common.{ap}
 
 -- each caller that was parked still is, but for this one perhaps
 abbrev OthersStay : State → State → (Waiter → Bool) → Type 0
@@ -85,7 +88,7 @@ module _ (b : State) (but : Waiter → Bool) where
   after_call : (limits : Limits) (caller p : ℕ) (call : Call) (ks : List ℕ) → StayAfter (call_change limits b caller p call ks)
   after_call limits caller p (EpollCtl epfd op fd mask tag) ks = after_same ks _ (ctl_waiters b p epfd.0 op fd.0 mask.0 tag)
   after_call limits caller p (EpollWait epfd most timeout) ks = after_wait caller p (named_by b.files p epfd.0) (number_in most) timeout ks (is_ready b (named_by b.files p epfd.0))
-  after_call limits caller p call ks = after_same ks _ refl
+  after_call limits caller p call ks = after_same ks _ (ap (λ (t : State). t.waiters) (only_files limits b p call (asks b.files.objects call)).1)
 
   from_after : (o : Option Change) (c : Change) → o ≡ Some c → StayAfter o → OthersStay b c.1 but
   unfolding StayAfter

@@ -12,7 +12,7 @@ use Rattle.ep_base.specs.declared.call.Event.TheVariants.{Call as CallOf, Resume
 use Rattle.ep_machine.specs.Files.{named_by, object_of}
 use Rattle.ep_law.specs.Laws.{Member}
 use Rattle.ep_view.proofs.KindLemmas.{instance_of_kind}
-use Rattle.ep_machine.specs.Objects.{instance}
+use Rattle.ep_machine.specs.Objects.{instance, asks}
 use Rattle.ep_view.specs.AtRest.{AtRest, kind_of, marks_at_end}
 use Rattle.ep_machine.specs.Readiness.{is_ready, is_reportable}
 use Rattle.ep_machine.specs.Report.{is_pick, plainly, report}
@@ -21,7 +21,7 @@ use Rattle.ep_machine.specs.State.{Change, State, Waiter, Watch}
 use Rattle.ep_machine.specs.Step.{call_change, change, next_event}
 use Rattle.ep_machine.specs.Waits.{is_marked_at, leave_after, resume, resume_by, tick, unmark, wait_for, waiter_of, waits_at}
 use Rattle.ep_machine.specs.Watches.{ctl, is_add, is_del, number_in}
-use Rattle.ep_law.proofs.StepLemmas.{change_counted}
+use Rattle.ep_law.proofs.StepLemmas.{change_counted, only_files}
 use Rattle.ep_law.proofs.MarkLemmas.{marked_parts, ready_marked, ready_same, guarded_same}
 use Rattle.ep_view.proofs.AtRestLemmas.{quiet_begun, quiet_change, quiet_run}
 use Rattle.ep_view.proofs.SettleLemmas.{quiet_settled, settle_changed}
@@ -42,6 +42,7 @@ use Rattle.ep_facts.proofs.NatFacts.{from_test, not_apart}
 use Rattle.ep_law.proofs.RegularLemmas.{changes_are_regular}
 use Rattle.ep_law.proofs.NarrowLemmas.{in_has}
 use Rattle.ep_law.proofs.GuardLemmas.{unguarded_spread}
+use Rattle.std.proofs.Common.{ap}
 
 abbrev pub at_any : ℕ → List ℕ → Bool
 at_any e ks = list_any (λ k. k == e) ks
@@ -135,7 +136,7 @@ module _ (limits : Limits) (b : State) (e : ℕ) where
   stays_after_call : (caller p : ℕ) (call : Call) (ks : List ℕ) → StaysAfter (call_change limits b caller p call ks)
   stays_after_call caller p (EpollCtl epfd op fd mask tag) ks = stays_after_same ks _ (ctl_waiters b p epfd.0 op fd.0 mask.0 tag)
   stays_after_call caller p (EpollWait epfd most timeout) ks = stays_after_wait caller p (named_by b.files p epfd.0) (number_in most) timeout ks
-  stays_after_call caller p call ks = stays_after_same ks _ refl
+  stays_after_call caller p call ks = stays_after_same ks _ (ap (λ (t : State). t.waiters) (only_files limits b p call (asks b.files.objects call)).1)
 
 apart_caller : (c : ℕ) (ws : List Waiter) (v : Waiter) → AllByRecursion (λ k. nat_eq c k ≡ false) (map (λ w. w.caller) ws) → Member v ws → nat_eq c v.caller ≡ false
 apart_caller c [] v h m = absurd m

@@ -25,8 +25,10 @@ use Rattle.ep_machine.specs.Waits.{leave_after, resume, tick, wait_for}
 use Rattle.ep_machine.specs.Watches.{ctl, has_key, is_add, is_del, modified, new_watch, number_in, with_watch}
 use Rattle.ep_law.proofs.GraphLemmas.{member_of_map}
 use Rattle.ep_law.proofs.ListLemmas.{filtered_member}
-use Rattle.ep_law.proofs.StepLemmas.{left_after, resumes}
+use Rattle.ep_law.proofs.StepLemmas.{left_after, resumes, only_files}
 use Rattle.ep_order.specs.Event.{IsAltered}
+use Rattle.ep_machine.specs.Objects.{asks}
+use Rattle.std.proofs.Common.{ap}
 
 -- one that was there, and may only have been reported
 pub record Stayed (b : State) (x : Watch) : Type 0 where
@@ -222,7 +224,9 @@ module _ (limits : Limits) (b : State) where
   fine_call : (caller : ℕ) (p : Pid) (call : Call) (ks : List ℕ) → Fine b (CallOf p call) ks (call_change limits b caller p.0 call ks)
   fine_call caller p (EpollCtl epfd op fd mask tag) ks = fine_plainly b _ ks _ (good_ctl p epfd op fd mask tag)
   fine_call caller p (EpollWait epfd most timeout) ks = fine_wait b _ caller p.0 (named_by b.files p.0 epfd.0) (number_in most) timeout ks
-  fine_call caller p call ks = fine_moved b _ ks _ refl refl refl
+  fine_call caller p call ks =
+      let only = (only_files limits b p.0 call (asks b.files.objects call)).1 in
+      fine_moved b _ ks _ (ap (λ (t : State). t.n) only) (ap (λ (t : State). t.added) only) (ap (λ (t : State). t.watches) only)
 
   fine_change : (caller : ℕ) (event : Event) (ks : List ℕ) → Fine b event ks (change limits b caller event ks)
   fine_change caller (CallOf p call) ks = fine_call caller p call ks

@@ -2,7 +2,7 @@
 use Rattle.std.proofs.Common.{◌≡◌, ◌≢◌, ◌+◌, ◌++◌, ◌==◌, ◌∙◌, ℕ, zero, suc, Bool, true, false, List, [], ◌∷◌, MatchOption, None, Option, Some, ℤ, pos, negsuc, ap, arith, cond, get_or, if◌then◌else◌, is_none, is_some, map, refl, set, subst, sym, unwrap_or}
 use Rattle.std.proofs.lemmas.Bool.{false≢true}
 use Rattle.std.proofs.lemmas.List.{get_or_append_left}
-use Rattle.ep_facts.proofs.NatFacts.{same_test}
+use Rattle.ep_facts.proofs.NatFacts.{same_test, same_nat}
 use Rattle.ep_base.specs.Limits.{Limits}
 use Rattle.ep_base.specs.declared.answer.Answer.TheVariants.{Events}
 use Rattle.ep_base.specs.declared.call.Call.{Call}
@@ -14,29 +14,41 @@ use Rattle.ep_base.specs.declared.ids.Fd.{Fd}
 use Rattle.ep_base.specs.declared.ids.Pid.{Pid}
 use Rattle.ep_law.specs.Laws.{HaveOwnEnds}
 use Rattle.ep_law.proofs.DeathLemmas.{has_here}
-use Rattle.ep_law.proofs.EndLemmas.{object_there, set_object}
-use Rattle.ep_law.proofs.InstanceLemmas.{AreMade}
+use Rattle.ep_law.proofs.EndLemmas.{object_there, set_object, own_of, Own}
+use Rattle.ep_law.proofs.InstanceLemmas.{AreMade, first_waits}
 use Rattle.ep_law.proofs.RaiseLemmas.{lived_before}
 use Rattle.ep_object.proofs.BitLemmas.{covers_self, covers_then}
-use Rattle.ep_law.proofs.ShapeLemmas.{by_making, by_shape}
+use Rattle.ep_law.proofs.ShapeLemmas.{by_making, by_shape, by_joined}
 use Rattle.ep_law.proofs.StepLemmas.{left_after, resumes}
 use Rattle.ep_machine.specs.Deaths.{die, die_all, kept_object}
 use Rattle.ep_machine.specs.Effect.{Effect, first, unless}
 use Rattle.ep_machine.specs.Files.{Files, Place, named_by, names_nothing, object_at, object_number, object_under, place_of, side_in, side_under, table_of, with_object}
 use Rattle.ep_machine.specs.FilesCalls.{files_call}
-use Rattle.ep_machine.specs.Objects.{Object, ObjectCall, close_end, object_effect, object_present, object_refusals, plain}
+use Rattle.ep_machine.specs.Objects.{Object, ObjectCall, close_end, object_effect, object_present, object_refusals, plain, is_plain, asks}
 use Rattle.ep_machine.specs.Readiness.{is_ready}
 use Rattle.ep_machine.specs.Refusal.{call_refusals, on_object, refusals}
 use Rattle.ep_machine.specs.Report.{is_pick, plainly, report, report_of, reported, watches_at}
 use Rattle.ep_machine.specs.State.{Change, State}
-use Rattle.ep_machine.specs.Step.{call_change, change, object_change}
+use Rattle.ep_machine.specs.Step.{call_change, change, object_change, joined, files_change}
 use Rattle.ep_machine.specs.Tables.{create_one, create_two}
 use Rattle.ep_machine.specs.Waits.{has_parked, is_parked, leave_after, resume, tick, wait_for}
 use Rattle.ep_machine.specs.Watches.{add, ctl, delete, is_add, is_del, modify, number_in}
 use Rattle.ep_view.proofs.FilesLemmas.{Filed, named_lives}
-use Rattle.ep_object.specs.Law.{object_has}
+use Rattle.ep_object.specs.Law.{object_has, ApplyLaw, CloseLaw, AdvanceLaw}
 use Rattle.ep_order.specs.Ending.{is_called, is_object_of}
 use Rattle.ep_object.proofs.OwnEndLemmas.{Shows, call_stays, clock_stays, close_stays}
+use Rattle.ep_law.proofs.ReplaceLemmas.{Replaces, still, have_ends, one_at, found_listens, join_replaces}
+use Rattle.ep_law.proofs.ChangeLemmas.{moves_object, under_is}
+use Rattle.ep_base.specs.declared.call.Call.TheVariants.{Accept}
+use Rattle.ep_law.proofs.ReplaceLemmas.{accept_replaces, abandoned_go, ends_same, HaveEnds}
+use Rattle.ep_machine.specs.Connections.{first_waiting, pending_in, accept, accepted, without_pending}
+use Rattle.ep_machine.specs.Files.{with_object, object_number, object_of}
+use Rattle.ep_base.specs.declared.object.End.{End}
+use Rattle.ep_base.specs.declared.object.End.TheVariants.{First}
+use Rattle.ep_machine.specs.Objects.{is_waiting, Object, plain}
+use Rattle.std.proofs.Common.{◌||◌, List, unwrap_or}
+use Rattle.ep_object.specs.Connecting.{IsIdle, IsListener}
+use Rattle.ep_object.proofs.ConnectionLemmas.{idle_plain, idle_first, listener_plain, listener_first, pending_listener}
 
 -- description d stays at its place from files f to g, and what holds there goes on holding
 pub record Holds (f g : Files) (old new d : ℕ) (p : Place) : Type 0 where
@@ -111,7 +123,7 @@ holds_death f raised x now d p here =
     let k = x.1.object in
     let gone = set f.descriptions x.0 None in
     let shut = (close_end (object_there f k) x.1.side).0 in
-    let kept : p.object ≡ k → kept_object (record f { descriptions = gone }) k shut ≡ Some shut = λ at. ap (λ (b : Bool). if b then Some shut else None) (has_here k 0 d gone p here at) in
+    let kept : p.object ≡ k → kept_object (record f { descriptions = gone }) k shut ≡ Some shut = λ at. ap (λ (b : Bool). if b || is_waiting shut then Some shut else None) (has_here k 0 d gone p here at) in
     record {
       place = here;
       shows = set_object (λ z. Shows (object_there f p.object) z p.side now now) f.objects k p.object (kept_object (record f { descriptions = gone }) k shut)
@@ -193,10 +205,6 @@ module _ (b : State) (event : Event) where
       goes_if (is_add op) (add b e k d mask tag) _ (goes_files _ refl refl refl)
       (goes_if (is_del op) (delete b e k d) (modify b e k d mask tag) (goes_files _ refl refl refl) (goes_files _ refl refl refl))
 
-  -- tables, objects and descriptions
-  fine_files : (ks : List ℕ) (c : Change) → c.1.arrivals ≡ b.arrivals → ((d : ℕ) (p : Place) → place_of b.files d ≡ Some p → Holds b.files c.1.files b.now c.1.now d p) → Fine (plainly ks c)
-  fine_files ks c arrivals holds = fine_plainly ks c (record { arrivals = arrivals; holds = λ d p uncalled here. holds d p here })
-
 first_passes : (t : Bool) (e : Errno) (rows : List (Bool × Errno)) → first ((t, e) ∷ rows) ≡ None → (t ≡ false) × (first rows ≡ None)
 first_passes true e rows h = cc
 first_passes false e rows h = (refl, h)
@@ -204,35 +212,106 @@ first_passes false e rows h = (refl, h)
 unlike : (a b : ℕ) → (a == b) ≡ false → a ≢ b
 unlike a b h e = absurd (false≢true (sym h ∙ same_test a b e))
 
-module _ (limits : Limits) (b : State) (ends : HaveOwnEnds b.files) (made : AreMade b.files) (filed : Filed b.files) where
-  -- a call on the object under a descriptor number
-  fine_object : (event : Event) (p : ℕ) (fd : ℤ) (asked : ObjectCall) (ks : List ℕ) → first (on_object b p fd asked) ≡ None
-      → ((d : ℕ) → is_called b event d ≡ false → (named_by b.files p fd == d) ≡ false) → Fine b event (plainly ks (object_change b p fd asked))
-  fine_object event p fd asked ks allowed other =
-      let k = named_by b.files p fd in
-      let rows = object_refusals (object_under b.files p fd) (side_under b.files p fd) b.now asked in
-      let passes = first_passes (names_nothing b.files p fd) Ebadf rows allowed in
-      fine_plainly b event ks _ (record {
+-- what gave way to its like goes on holding where nothing is called
+holds_replaced : (called : ℕ → Bool) (now : ℕ) (f g : Files) (raised : List (ℕ × ℕ)) → Replaces called now f g raised → (d : ℕ) (p : Place) → called d ≡ false → place_of f d ≡ Some p → Holds f g now now d p
+holds_replaced called now f g raised r d p uncalled here = record { place = still called now f g raised r d p here; shows = (r.like d p here).stays uncalled }
+
+-- what shows no plain file has a place
+placed : (f : Files) (o : Option Place) → is_plain (unwrap_or (object_at f o) plain) ≡ false → (q : Place) × (o ≡ Some q)
+placed f None h = absurd (false≢true (sym h))
+placed f (Some q) h = (q, refl)
+
+called_object : (b : State) (p : Pid) (call : Call) (fd : Fd) (asked : ObjectCall) (d : ℕ) → asks b.files.objects call ≡ Some (fd, asked) → is_called b (CallOf p call) d ≡ (named_by b.files p.0 fd.0 == d)
+called_object b p (Accept at cloexec) fd asked d h = cc
+called_object b p call fd asked d h = ap (λ (o : Option (Fd × ObjectCall)). is_object_of b p.0 o d) h
+
+module _ (apply : ApplyLaw) (close : CloseLaw) (clock : AdvanceLaw) (limits : Limits) (b : State) (ends : HaveOwnEnds b.files) (filed : Filed b.files) where
+  abbrev own : Own b.files
+  own = own_of b.files ends
+
+  -- whoever is called through a descriptor has all descriptions of what that names, if that has one only
+  all_called : (event : Event) (f : Files) (kept : HaveEnds f) (c m : ℕ) → is_plain (unwrap_or (object_of f c) plain) ≡ false → m ≡ object_number (place_of f c) → ((e : End) → object_has (object_there f m) e ≡ true → e ≡ First)
+      → is_called b event c ≡ true → (d : ℕ) (p : Place) → place_of f d ≡ Some p → p.object ≡ m → is_called b event d ≡ true
+  all_called event f kept c m shown at alone called d p here also =
+      let q = placed f (place_of f c) shown in
+      let there : q.0.object ≡ m = sym (at ∙ ap object_number q.1) in
+      subst (λ (k : ℕ). is_called b event k ≡ true) (sym (one_at f kept m c q.0 alone q.1 there d p here also)) called
+
+  -- a call on the object under a descriptor number, and a join
+  fine_object : (p : Pid) (call : Call) (fd : Fd) (asked : ObjectCall) (ks : List ℕ) → asks b.files.objects call ≡ Some (fd, asked) → first (on_object b p.0 fd.0 asked) ≡ None
+      → Fine b (CallOf p call) (plainly ks (joined limits p.0 call (object_change b p.0 fd.0 asked)))
+  fine_object p call fd asked ks is allowed =
+      let event = CallOf p call in
+      let k = named_by b.files p.0 fd.0 in
+      let rows = object_refusals (object_under b.files p.0 fd.0) (side_under b.files p.0 fd.0) b.now asked in
+      let passes = first_passes (names_nothing b.files p.0 fd.0) Ebadf rows allowed in
+      let through : (d : ℕ) → is_called b event d ≡ (k == d) = λ d. called_object b p call fd asked d is in
+      let c = object_change b p.0 fd.0 asked in
+      let g = c.1.files in
+      let owned = (moves_object apply b p.0 fd.0 asked own passes.1).own in
+      let one : Goes b event c.1 = record {
         arrivals = refl;
-        holds = λ d q uncalled here. holds_by b.files ends b.now d q here asked k (place_of b.files k) refl (named_lives b.files p fd filed passes.0) (unlike k d (other d uncalled)) passes.1;
-      })
+        holds = λ d q uncalled here. holds_by b.files ends b.now d q here asked k (place_of b.files k) refl (named_lives b.files p.0 fd.0 filed passes.0) (unlike k d (sym (through d) ∙ uncalled)) passes.1;
+      } in
+      fine_plainly b event ks _ (by_joined limits p.0 (λ (made : Change). Goes b event made.1) call c one (λ at name x m same under found unix.
+      let o = place_of g (named_by g p.0 at.0) in
+      let heard = found_listens g name m found in
+      let is_idle : IsIdle (object_there g (object_number o)) x = sym (under_is g owned o) ∙ under in
+      let called : is_called b event (named_by g p.0 at.0) ≡ true = ap (λ (of : Call). is_called b (CallOf p of) (named_by g p.0 at.0)) same ∙ same_nat (named_by b.files p.0 at.0) in
+      let all = all_called event g (have_ends g owned) (named_by g p.0 at.0) (object_number o) (idle_plain (object_under g p.0 at.0) x under) refl (idle_first (object_there g (object_number o)) x is_idle) called in
+      let r = join_replaces (is_called b event) b.now limits.sock_bytes g (have_ends g owned) (object_number o) m x heard.0 name is_idle heard.1 unix all in
+      record {
+        arrivals = refl;
+        holds = λ d q uncalled here.
+            let h = one.holds d q uncalled here in
+            holds_then b.files g _ b.now b.now b.now d q h (holds_replaced (is_called b event) b.now g _ _ r d q uncalled h.place);
+      }))
+
+  -- an accept describes the second end
+  holds_accept : (p : Pid) (fd : Fd) (cloexec : Bool) (k : ℕ) → first_waiting b.files (pending_in (object_under b.files p.0 fd.0)) ≡ Some k → (d : ℕ) (q : Place) → is_called b (CallOf p (Accept fd cloexec)) d ≡ false → place_of b.files d ≡ Some q
+      → Holds b.files (accept b.files p.0 (object_number (place_of b.files (named_by b.files p.0 fd.0))) (Some k) cloexec) b.now b.now d q
+  holds_accept p fd cloexec k is d q uncalled here =
+      let event = CallOf p (Accept fd cloexec) in
+      let f = b.files in
+      let c = named_by f p.0 fd.0 in
+      let m = object_number (place_of f c) in
+      let found = pending_listener (object_under f p.0 fd.0) f k is in
+      let is_listener : IsListener (object_there f m) found.0 = sym (under_is f own (place_of f c)) ∙ found.1 in
+      let kept = have_ends f own in
+      let all = all_called event f kept c m (listener_plain (object_under f p.0 fd.0) found.0 found.1) refl (listener_first (object_there f m) found.0 is_listener) (same_nat c) in
+      let r = accept_replaces (is_called b event) b.now f kept m k found.0 is_listener (first_waits f _ k is) all in
+      let made = with_object (with_object f m (without_pending k (object_there f m))) k (accepted (object_there f k)) in
+      let h = holds_replaced (is_called b event) b.now f made [] r d q uncalled here in
+      holds_then f made _ b.now b.now b.now d q h (holds_same made _ b.now d q (still_there made.descriptions _ d q h.place) refl)
 
   -- a call on the tables alone
-  holds_after : (p : ℕ) (call : Call) (d : ℕ) (q : Place) → place_of b.files d ≡ Some q → Holds b.files (files_call limits b.files p (has_parked b p) call).after b.now b.now d q
-  holds_after p call d q here =
-      by_making limits b.files p (has_parked b p) (λ g. Holds b.files g b.now b.now d q)
-      (λ x cloexec has. holds_one b.files made b.now p x cloexec d q here)
-      (λ x cloexec has also. holds_two b.files made b.now p x cloexec d q here)
-      (λ g places objects. holds_same b.files g b.now d q (ap (λ (ds : List (Option Place)). get_or ds d None) places ∙ here) (ap (λ (os : List (Option Object)). unwrap_or (get_or os q.object None) plain) objects))
-      call
+  holds_after : (p : Pid) (call : Call) (d : ℕ) (q : Place) → is_called b (CallOf p call) d ≡ false → place_of b.files d ≡ Some q → Holds b.files (files_call limits b.files p.0 (has_parked b p.0) call).after b.now b.now d q
+  holds_after p call d q uncalled here =
+      by_making limits b.files p.0 (has_parked b p.0) (λ of g raised. is_called b (CallOf p of) d ≡ false → Holds b.files g b.now b.now d q)
+      (λ of x cloexec has free. holds_one b.files ends.made b.now p.0 x cloexec d q here)
+      (λ of x cloexec has also free. holds_two b.files ends.made b.now p.0 x cloexec d q here)
+      (λ of g places objects free. holds_same b.files g b.now d q (ap (λ (ds : List (Option Place)). get_or ds d None) places ∙ here) (ap (λ (os : List (Option Object)). unwrap_or (get_or os q.object None) plain) objects))
+      (λ of g places objects free.
+      let event = CallOf p of in
+      let there = ap (λ (ds : List (Option Place)). get_or ds d None) places ∙ here in
+      let kept = ends_same b.files g places objects (have_ends b.files own) in
+      let r = abandoned_go close (is_called b event) b.now g kept in
+      holds_then b.files g _ b.now b.now b.now d q
+      (holds_same b.files g b.now d q there (ap (λ (os : List (Option Object)). unwrap_or (get_or os q.object None) plain) objects))
+      (holds_replaced (is_called b event) b.now g _ _ r d q free there))
+      (λ fd cloexec k is free. holds_accept p fd cloexec k is d q free here)
+      call uncalled
+
+  goes_tables : (p : Pid) (call : Call) → Goes b (CallOf p call) (files_change b (files_call limits b.files p.0 (has_parked b p.0) call)).1
+  goes_tables p call = record { arrivals = refl; holds = holds_after p call }
 
   fine_call : (caller : ℕ) (p : Pid) (call : Call) (ks : List ℕ) → first (call_refusals limits b p.0 call) ≡ None → Fine b (CallOf p call) (call_change limits b caller p.0 call ks)
   fine_call caller p call ks =
       by_shape limits b caller p.0 ks (λ on tests c. first tests ≡ None → Fine b (CallOf p on) c)
       (λ epfd op fd mask tag allowed. fine_plainly b _ ks _ (goes_ctl b _ p.0 epfd.0 op fd.0 mask.0 tag))
       (λ epfd most timeout allowed. fine_wait b _ caller p.0 (named_by b.files p.0 epfd.0) (number_in most) timeout ks)
-      (λ on fd asked is allowed. fine_object (CallOf p on) p.0 fd.0 asked ks allowed (λ d uncalled. sym (ap (λ (o : Option (Fd × ObjectCall)). is_object_of b p.0 o d) is) ∙ uncalled))
-      (λ on is allowed. fine_files b _ ks _ refl (holds_after p.0 on))
+      (λ on fd asked is allowed. fine_object p on fd asked ks is allowed)
+      (λ on is allowed. fine_plainly b _ ks _ (goes_tables p on))
       call
 
   goes_tick : (k : ℕ) → Goes b (Tick k) (tick b k).1

@@ -17,13 +17,16 @@ use Rattle.ep_machine.specs.State.{Change, State, Watch, opening}
 use Rattle.ep_machine.specs.Step.{change, next_event}
 pub use Rattle.ep_object.specs.Law.{CallEndsHereOnly, ClockEndsNothing, CloseEndsNothing}
 use Rattle.ep_order.specs.Event.{IsAltered, end_of}
+use Rattle.ep_base.specs.declared.call.Call.TheVariants.{Accept}
+use Rattle.std.specs.Prelude.{List, None, Option, Some}
 
--- a call that is taken apart so is on the object of this description, and so is an event
+-- a call that is taken apart so is on the object of this description, and so is an event; an accept is on its listener
 abbrev pub is_object_of : State → ℕ → Option (Fd × ObjectCall) → ℕ → Bool
 is_object_of s p None d = false
 is_object_of s p (Some on) d = named_by s.files p on.0.0 == d
 
 abbrev pub is_called : State → Event → ℕ → Bool
+is_called s (CallOf p (Accept fd cloexec)) d = named_by s.files p.0 fd.0 == d
 is_called s (CallOf p call) d = is_object_of s p.0 (asks s.files.objects call) d
 is_called s event d = false
 

@@ -127,5 +127,6 @@ pub fn bits_end_where_called()
 pub fn untouched_stay_reportable()
     ensures law { UntouchedStayReportable }
 {
+    ep_object::arrivals_are_raised();
     ep_law::laws::ends_are_apart();
 }

@@ -1,6 +1,7 @@
 pub mod Records
 pub mod LevelRuns
 pub mod RefusalRuns
+pub mod ConnectionRuns
 pub mod CounterRuns
 pub mod TimerRuns
 pub mod SocketRuns

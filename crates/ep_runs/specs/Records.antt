@@ -6,7 +6,7 @@ use Rattle.ep_base.specs.declared.answer.Answer.TheVariants.{Done, Events, Refus
 use Rattle.ep_base.specs.declared.answer.Report.{Report}
 use Rattle.ep_base.specs.declared.call.Call.{Call}
 use Rattle.ep_base.specs.declared.call.Call.TheVariants.{Accept, Bind, Close, Connect, Dup, Dup2, EpollCreate, EpollCtl, EpollWait}
-use Rattle.ep_base.specs.declared.call.Call.TheVariants.{EventFd, GetTime, Peek, Pipe as PipeCall, Plain, Read}
+use Rattle.ep_base.specs.declared.call.Call.TheVariants.{EventFd, GetTime, Listen, Peek, Pipe as PipeCall, Plain, Read}
 use Rattle.ep_base.specs.declared.call.Call.TheVariants.{SetTime, Shutdown, Socket, SocketName, SocketPair, TakeError, TimerFd, Write}
 use Rattle.ep_base.specs.declared.call.Event.{Event}
 use Rattle.ep_base.specs.declared.call.Event.TheVariants.{Call as CallOf, Resume, Tick}
@@ -113,6 +113,9 @@ bind_call fd space number = Bind (fd_of fd) (name_at space number)
 
 abbrev pub connect_call : ℤ → Space → ℕ → Call
 connect_call fd space number = Connect (fd_of fd) (name_at space number)
+
+abbrev pub listen_call : ℤ → ℤ → Call
+listen_call fd backlog = Listen (fd_of fd) backlog
 
 abbrev pub accept_call : ℤ → Call
 accept_call fd = Accept (fd_of fd) false

@@ -1,7 +1,8 @@
 //! Worked runs of the machine. Each contract says that a list of records is a run, and that the same list with one
-//! answer or one report changed is none. The functions do nothing.
+//! answer or one report changed is none; those of connections say what definitions give. The functions do nothing.
 #![tactic(auto)]
 
+pub mod connections;
 pub mod counters;
 pub mod descriptors;
 pub mod edge;

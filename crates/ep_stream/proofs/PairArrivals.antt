@@ -14,8 +14,8 @@ use Rattle.ep_machine.specs.Bits.{IsCovered, ERR, HUP, IN, OUT, RDHUP, at_end, b
 use Rattle.ep_machine.specs.Effect.{Effect}
 use Rattle.ep_machine.specs.Lists.{is_empty}
 use Rattle.ep_machine.specs.Sockets.{Socket, SocketPair, changed, comes_back, comes_no_more, failed, fails_reading, fails_writing, goes_no_more, is_tcp, own}
-use Rattle.ep_machine.specs.Sockets.{pair_close, pair_closed, pair_peek, pair_present, pair_read, pair_read_refusals, pair_room, pair_shutdown, pair_taken, pair_write}
-use Rattle.ep_machine.specs.Sockets.{pair_write_refusals, peer, peer_beginning, raised_ends, reset_bits, sent, sent_back, socket_present, tidings, wants_more, without_error}
+use Rattle.ep_machine.specs.Sockets.{pair_closed, pair_peek, pair_present, pair_read, pair_read_refusals, pair_room, pair_taken, pair_write}
+use Rattle.ep_machine.specs.Sockets.{pair_write_refusals, peer, peer_beginning, raised_ends, reset_bits, sent, sent_back, socket_present, tidings, wants_more}
 use Rattle.ep_stream.specs.Law.{PairCloseLaw, PairErrorLaw, PairPeekLaw, PairReadLaw, PairShutdownLaw, PairWriteLaw, RaisesArrivals, pair_has}
 use Rattle.ep_stream.proofs.Arrivals.{attempted, covered, covers, unchanged, waited}
 use Rattle.ep_stream.proofs.PairClosed.{either, first_closed, second_closed}
@@ -166,6 +166,10 @@ not_there : (c : Bool) → c ≡ true → IsTrue (not c) → ⊥
 not_there true e h = absurd (false≢true h)
 not_there false e h = absurd (false≢true e)
 
+second_holds : (a b : Bool) → IsTrue (a && b) → IsTrue b
+second_holds true b h = h
+second_holds false b h = absurd (false≢true h)
+
 -- of what is raised only where the peer lives, where it lives
 living : (c : Bool) (x y : Raised) → IsTrue (not c) → (if c then x else y) ≡ y
 living true x y h = absurd (false≢true h)
@@ -177,7 +181,7 @@ told p e = raised_ends e 0 (union (tidings p e ∷ peer_beginning p (pair_closed
 pub pair_close_law : PairCloseLaw
 pair_close_law p First First before after = absurd (not_there _ (first_closed p) after)
 pair_close_law p First Second before after =
-    subst (λ (r : Raised). IsCovered (pair_present p Second) (pair_present (pair_closed p First) Second) (at_end r Second)) (sym (living (peer p First).is_closed nothing (told p First) before)) (told_covers _ _ _)
+    subst (λ (r : Raised). IsCovered (pair_present p Second) (pair_present (pair_closed p First) Second) (at_end r Second)) (sym (living (peer p First).is_closed nothing (told p First) (second_holds p.is_accepted _ before))) (told_covers _ _ _)
 pair_close_law p Second First before after =
     subst (λ (r : Raised). IsCovered (pair_present p First) (pair_present (pair_closed p Second) First) (at_end r First)) (sym (living (peer p Second).is_closed nothing (told p Second) before)) (told_covers _ _ _)
-pair_close_law p Second Second before after = absurd (not_there _ (second_closed p) after)
+pair_close_law p Second Second before after = absurd (not_there _ (second_closed p) (second_holds (pair_closed p Second).is_accepted _ after))

@@ -1,5 +1,5 @@
 -- What one end of a pair's closing makes of the pair of the code, while the other end is open.
-use Rattle.std.proofs.Common.{Bool, None, ap, false, refl, sym, true, ◌&&◌, ◌≡◌}
+use Rattle.std.proofs.Common.{Bool, ap, false, refl, sym, true, ◌&&◌, ◌≡◌}
 use Rattle.std.proofs.lemmas.Bool.{false≢true}
 use Rattle.ep_base.specs.declared.object.End.TheVariants.{First, Second}
 use Rattle.ep_base.specs.declared.socket.Family.TheVariants.{Unix}

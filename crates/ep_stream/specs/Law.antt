@@ -1,5 +1,5 @@
 -- The law of what is raised: a bit that begins to hold at an end is raised there.
-use Rattle.std.specs.Prelude.{Bool, IsTrue, List, not, ℕ}
+use Rattle.std.specs.Prelude.{Bool, IsTrue, List, not, ℕ, ◌&&◌}
 use Rattle.ep_base.specs.declared.object.End.{End}
 use Rattle.ep_base.specs.declared.object.End.TheVariants.{First, Second}
 use Rattle.ep_base.specs.declared.object.Raised.{Raised}
@@ -7,7 +7,7 @@ use Rattle.ep_base.specs.declared.socket.How.{How}
 use Rattle.ep_machine.specs.Bits.{at_end, IsCovered}
 use Rattle.ep_machine.specs.Effect.{attempt}
 use Rattle.ep_machine.specs.Pipe.{Pipe, pipe_close, pipe_present, pipe_read, pipe_read_refusals, pipe_write, pipe_write_refusals}
-use Rattle.ep_machine.specs.Sockets.{SocketPair, own, pair_close, pair_peek, pair_present, pair_read, pair_read_refusals}
+use Rattle.ep_machine.specs.Sockets.{SocketPair, pair_close, pair_peek, pair_present, pair_read, pair_read_refusals}
 use Rattle.ep_machine.specs.Sockets.{pair_shutdown, pair_take_error, pair_write, pair_write_refusals}
 
 -- so it is at each end that is there before and after
@@ -31,8 +31,10 @@ PipeWriteLaw = (p : Pipe) (e : End) (bytes : List ℕ)
 abbrev pub PipeCloseLaw : Type 0
 PipeCloseLaw = (p : Pipe) (e : End) → let closed = pipe_close p e in RaisesArrivals pipe_has pipe_present p closed.0 closed.1
 
+-- the second end of a connection is there once it is accepted
 abbrev pub pair_has : SocketPair → End → Bool
-pair_has p e = not (own p e).is_closed
+pair_has p First = not p.first_end.is_closed
+pair_has p Second = p.is_accepted && not p.second_end.is_closed
 
 abbrev pub PairReadLaw : Type 0
 PairReadLaw = (p : SocketPair) (e : End) (n : ℕ)

@@ -161,6 +161,13 @@ impl Model for SockPair {
 impl SockPair {
     ghost use Rattle.ep_stream.specs.Socket.{socket_of};
 
+    /// What always holds: the second end waits nowhere to be accepted.
+    pub fn is_accepted(&self)
+        ensures { self.now.is_accepted ≡ true }
+    {
+        let _ = &self.first_end;
+    }
+
     /// A pair of open ends, each with an empty queue of at most `capacity` bytes.
     /// All memory that later calls need is taken here, but for the bytes that a read or a peek gives.
     pub fn new(alloc: Global, capacity: u32) -> Result<SockPair, AllocError>

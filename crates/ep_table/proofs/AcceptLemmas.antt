@@ -1,15 +1,14 @@
 -- How accept is refused: the first of its tests that holds.
-use Rattle.std.proofs.Common.{Bool, IsSome, List, None, Option, Some, ap, false, is_none, not, nat_le, sym, true, unwrap_or, ℕ, ℤ, ◌++◌, ◌∙◌, ◌∷◌, ◌≡◌, [], refl}
+use Rattle.std.proofs.Common.{Bool, List, None, Option, Some, ap, false, is_none, not, nat_le, sym, true, unwrap_or, ℕ, ℤ, ◌++◌, ◌∙◌, ◌∷◌, ◌≡◌, [], refl}
 use Rattle.ep_base.specs.declared.errno.Errno.{Errno}
 use Rattle.ep_base.specs.declared.errno.Errno.TheVariants.{Eagain, Ebadf, Einval, Emfile, Enotsock}
-use Rattle.ep_base.specs.declared.ids.DescId.{DescId}
+use Rattle.ep_machine.specs.Connections.{first_waiting, pending_in}
 use Rattle.ep_machine.specs.Effect.{first}
-use Rattle.ep_machine.specs.Files.{named_by, names_nothing, numbers_of, object_of, object_under}
+use Rattle.ep_machine.specs.Files.{names_nothing, numbers_of, object_of, object_under}
 use Rattle.ep_machine.specs.FilesCalls.{accept_of}
 use Rattle.ep_machine.specs.Objects.{Object, is_listener, is_socket, of_socket, plain}
 use Rattle.ep_machine.specs.Tables.{one_free, one_refusals}
-use Rattle.ep_table.proofs.DoesLemmas.{found_is}
-use Rattle.ep_table.specs.Value.{Seen, number_of, number_under}
+use Rattle.ep_table.specs.Value.{Seen}
 use Rattle.ep_machine.specs.Files.{under}
 
 stops : (b : Bool) (e : Errno) (rest : List (Bool × Errno)) → b ≡ true → first ((b, e) ∷ rest) ≡ Some e
@@ -34,7 +33,7 @@ module _ (v : Seen) (p : ℕ) (fd : ℤ) where
 
   -- behind the test of one kind of file
   abbrev last_tests : List (Bool × Errno)
-  last_tests = (not (is_listener x), Einval) ∷ (true, Eagain) ∷ []
+  last_tests = (not (is_listener x), Einval) ∷ (is_none (first_waiting v.files (pending_in x)), Eagain) ∷ []
 
   abbrev of_sockets : List (Bool × Errno)
   of_sockets = of_socket x (one_refusals v.limits v.files p ++ last_tests)
@@ -43,7 +42,7 @@ module _ (v : Seen) (p : ℕ) (fd : ℤ) where
   full = nat_le v.limits.descriptors (one_free (numbers_of v.files p))
 
   abbrev Refused : Errno → Type 0
-  Refused e = first (accept_of v.limits v.files p fd).refusals ≡ Some e
+  Refused e = first (accept_of v.limits v.files p fd false).refusals ≡ Some e
 
   pub unnamed_accept : None ≡ under v.files p fd → Refused Ebadf
   unnamed_accept h = stops (names_nothing v.files p fd) Ebadf _ (ap (λ (o : Option ℕ). is_none o) (sym h))
@@ -59,25 +58,29 @@ module _ (v : Seen) (p : ℕ) (fd : ℤ) where
       same : y ≡ x
       same = ap (λ (o : Option Object). unwrap_or o plain) (is ∙ ap (λ (n : ℕ). object_of v.files n) (ap (λ (o : Option ℕ). unwrap_or o 0) found))
 
-      to_sockets : first (accept_of v.limits v.files p fd).refusals ≡ first of_sockets
+      to_sockets : first (accept_of v.limits v.files p fd false).refusals ≡ first of_sockets
       to_sockets = goes_on (names_nothing v.files p fd) Ebadf _ named ∙ goes_on full Emfile of_sockets roomy
 
       pub other_accept : is_socket y ≡ false → Refused Enotsock
       other_accept h = to_sockets ∙ stops (not (is_socket x)) Enotsock _ (ap not (sym (ap is_socket same) ∙ h))
 
       module _ (socket : is_socket y ≡ true) where
-        to_ones : first (accept_of v.limits v.files p fd).refusals ≡ first (one_refusals v.limits v.files p ++ last_tests)
+        to_ones : first (accept_of v.limits v.files p fd false).refusals ≡ first (one_refusals v.limits v.files p ++ last_tests)
         to_ones = to_sockets ∙ goes_on (not (is_socket x)) Enotsock _ (ap not (sym (ap is_socket same) ∙ socket))
 
         pub many_accept : (e : Errno) → Some e ≡ first (one_refusals v.limits v.files p) → Refused e
         many_accept e h = to_ones ∙ before (one_refusals v.limits v.files p) last_tests e (sym h)
 
         module _ (few : None ≡ first (one_refusals v.limits v.files p)) where
-          to_last : first (accept_of v.limits v.files p fd).refusals ≡ first last_tests
+          to_last : first (accept_of v.limits v.files p fd false).refusals ≡ first last_tests
           to_last = to_ones ∙ behind (one_refusals v.limits v.files p) last_tests (sym few)
 
           pub deaf_accept : is_listener y ≡ false → Refused Einval
           deaf_accept h = to_last ∙ stops (not (is_listener x)) Einval _ (ap not (sym (ap is_listener same) ∙ h))
 
-          pub empty_accept : is_listener y ≡ true → Refused Eagain
-          empty_accept h = to_last ∙ goes_on (not (is_listener x)) Einval _ (ap not (sym (ap is_listener same) ∙ h))
+          pub empty_accept : is_listener y ≡ true → pending_in y ≡ [] → Refused Eagain
+          empty_accept h alone =
+              let none = ap (λ (ks : List ℕ). is_none (first_waiting v.files ks)) (ap pending_in (sym same) ∙ alone) in
+              to_last
+              ∙ (goes_on (not (is_listener x)) Einval _ (ap not (sym (ap is_listener same) ∙ h))
+              ∙ stops (is_none (first_waiting v.files (pending_in x))) Eagain [] none)

@@ -1,5 +1,6 @@
 -- The death of a description, as the machine has it.
-use Rattle.std.proofs.Common.{List, None, Option, Some, [], ap, get_or, map, slice_set, subst, sym, unwrap_or, ℕ, ◌++◌, ◌==◌, ◌∙◌, ◌∷◌, ◌≡◌, if◌then◌else◌}
+use Rattle.std.proofs.Common.{Bool, List, None, Option, Some, [], ap, get_or, map, slice_set, subst, sym, unwrap_or, ℕ, ◌++◌, ◌==◌, ◌∙◌, ◌∷◌, ◌≡◌, ◌||◌, if◌then◌else◌}
+use Rattle.std.proofs.Math.Bool.{or-false}
 use Rattle.std.specs.List.{list_any}
 use Rattle.ep_facts.proofs.ListFacts.{map_set}
 use Rattle.ep_base.specs.declared.ids.DescId.{DescId}
@@ -7,7 +8,8 @@ use Rattle.ep_base.specs.declared.object.Raised.{Raised}
 use Rattle.ep_machine.specs.Deaths.{die}
 use Rattle.ep_machine.specs.Files.{Place, object_at, object_of, place_of}
 use Rattle.ep_machine.specs.Lists.{numbered}
-use Rattle.ep_machine.specs.Objects.{Object, close_end, plain}
+use Rattle.ep_machine.specs.Objects.{Object, close_end, is_waiting, plain}
+use Rattle.ep_object.proofs.PendingLemmas.{close_leaves_accepted}
 use Rattle.ep_table.specs.ByNumber.{contents_by}
 use Rattle.ep_table.specs.Closing.{Dies, closed_slot, other_slot, raised_slot}
 use Rattle.ep_table.specs.Stored.{AllFewer, AllKeyed, IsStore, count_in, counts, holds_in, key_number, names_in, number_in, objects, place_in, places, queued, things}
@@ -50,7 +52,11 @@ module _ {A : Type 0} (k : Inside A) (v : Things) (inv : IsStore k) (same : thin
       let content : Object = unwrap_or (get_or v.objects d.object_number None) plain in
       let e : content ≡ s.object = ap unwrapped object_under in
       let without = record (files_in v) { descriptions = slice_set v.descriptions d.number None } in
-      λ i. record without { objects = slice_set v.objects d.object_number (if list_any (λ y. y.1.object == d.object_number) (numbered 0 (slice_set v.descriptions d.number None)) then Some (close_end (sym e i) d.end).0 else None) }
+      let others : Bool = list_any (λ y. y.1.object == d.object_number) (numbered 0 (slice_set v.descriptions d.number None)) in
+      let accepted = close_leaves_accepted s.object d.end (inv.quiet d.object s (backs k v inv same key d is).is).accepted in
+      let kept : others ≡ (others || is_waiting (close_end s.object d.end).0) = sym (ap (λ (b : Bool). others || b) accepted ∙ or-false others) in
+      (λ i. record without { objects = slice_set v.objects d.object_number (if kept i then Some (close_end s.object d.end).0 else None) })
+      ∙ (λ i. record without { objects = slice_set v.objects d.object_number (if others || is_waiting (close_end (sym e i) d.end).0 then Some (close_end (sym e i) d.end).0 else None) })
 
   module _ (rest : List Dying) (last : Dying) (split : k.dying.items ≡ rest ++ last ∷ []) (named : last.number ≡ d.number) where
     first_is : v.dying ≡ d.number ∷ queued rest

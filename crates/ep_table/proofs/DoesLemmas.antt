@@ -10,9 +10,10 @@ use Rattle.ep_base.specs.declared.ids.Fd.{Fd}
 use Rattle.std.proofs.lemmas.Bool.Decides.{nat_tests}
 use Rattle.std.proofs.lemmas.Option.{none-some}
 use Rattle.ep_facts.proofs.OptionFacts.{number_of as some_is}
+use Rattle.ep_machine.specs.Connections.{without_abandoned}
 use Rattle.ep_machine.specs.Effect.{first}
-use Rattle.ep_machine.specs.Files.{named_by, numbers_of, under}
-use Rattle.ep_machine.specs.FilesCalls.{FilesCall, dup_of, one_of, two_of}
+use Rattle.ep_machine.specs.Files.{Files, named_by, numbers_of, under}
+use Rattle.ep_machine.specs.FilesCalls.{FilesCall, dup_of, letting_go, one_of, quietly, two_of}
 use Rattle.ep_machine.specs.Objects.{Object}
 use Rattle.ep_machine.specs.Tables.{answer_one, answer_two, dup, one_free, second_free, slot}
 use Rattle.ep_table.specs.Value.{AddsKey, CreatesOne, CreatesTwo, Does, Refuses, Seen, Succeeds, count_at, holds_of, number_at, number_of, number_under}
@@ -28,6 +29,11 @@ pub does_done : (call : FilesCall) (answer : Answer) (old new : Seen) → first 
 does_done call answer old new h done =
     let P : Option Errno → Type 0 = λ o. MatchOption o (Succeeds call answer old new) (λ f. Refuses f answer old new) in
     subst P (sym h) done
+
+-- a call that would let go what waits, where nothing does
+pub does_quietly : (refusals : List (Bool × Errno)) (made answer : Answer) (after : Files) (old new : Seen) → without_abandoned after ≡ (after, []) → Does (quietly refusals made after) answer old new → Does (letting_go refusals made after) answer old new
+does_quietly refusals made answer after old new none h =
+    subst (λ (left : Files × List (ℕ × ℕ)). Does (record { refusals = refusals; answer = made; after = left.0; raised = left.1 }) answer old new) (sym none) h
 
 -- a new key takes none that has a number
 keeps_gained : (old new : List (Option ℕ)) (key : DescId) (n : ℕ) → AddsKey old new key n → (k : DescId) (d : ℕ) → number_at old k ≡ Some d → number_at new k ≡ Some d
@@ -49,6 +55,7 @@ succeeds_one old new p x cloexec answer a c = record {
   limits = c.limits;
   keys = keeps_gained old.keys new.keys c.keys.key _ c.keys.adds;
   holds = λ d. ap (λ (hs : List ℕ). count_at hs d) c.holds ∙ counts_appended old.holds d;
+  raised = refl;
 }
 
 pub succeeds_two : (old new : Seen) (p : ℕ) (x : Object) (cloexec : Bool) (answer : Answer) → answer ≡ answer_two old.files p → CreatesTwo old new p x cloexec → Succeeds (two_of old.limits old.files p x cloexec) answer old new
@@ -58,6 +65,7 @@ succeeds_two old new p x cloexec answer a c = record {
   limits = c.limits;
   keys = λ k d h. keeps_gained c.keys.middle new.keys c.keys.second.key _ c.keys.second.adds k d (keeps_gained old.keys c.keys.middle c.keys.first.key _ c.keys.first.adds k d h);
   holds = λ d. ap (λ (hs : List ℕ). count_at hs d) c.holds ∙ (counts_appended (old.holds ++ 0 ∷ []) d ∙ counts_appended old.holds d);
+  raised = refl;
 }
 
 pub one_below : (v : Seen) (p : ℕ) → one_free (numbers_of v.files p) < second_free (numbers_of v.files p)
@@ -81,6 +89,7 @@ succeeds_dup old new p n d fd e f g =
       limits = ap (λ (w : Seen). w.limits) g;
       keys = λ key m h. ap (λ (w : Seen). number_under w key) g ∙ h;
       holds = λ m. ap (λ (w : Seen). holds_of w m) g;
+      raised = refl;
     }
 
 pub full_is : (m n : ℕ) → m ≤ n → first ((nat_le m n, Emfile) ∷ []) ≡ Some Emfile

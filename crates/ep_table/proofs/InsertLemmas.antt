@@ -1,8 +1,9 @@
 -- New descriptions.
-use Rattle.std.proofs.Common.{List, None, Option, Some, [], ap, arith, get_or, length, map, refl, subst, sym, inl, inr, ℕ, ◌++◌, ◌+◌, ◌∙◌, ◌∷◌, ◌≡◌, ◌≢◌}
+use Rattle.std.proofs.Common.{List, None, Option, Some, [], ap, arith, count_by, get_or, is_some, length, map, refl, subst, sym, inl, inr, vec_capacity, ℕ, ◌++◌, ◌+◌, ◌∙◌, ◌∷◌, ◌≡◌, ◌≢◌, ◌≤◌}
 use Rattle.ep_facts.proofs.NatFacts.{same_or_not}
 use Rattle.ep_facts.proofs.ListFacts.{map_push}
-use Rattle.slab.specs.Slab.{Slab, Updates, get}
+use Rattle.std.specs.declared.vec.Vec.{Vec}
+use Rattle.slab.specs.Slab.{Slab, Updates, get, slab_len}
 use Rattle.ep_base.specs.declared.ids.DescId.{DescId}
 use Rattle.ep_base.specs.declared.object.End.{End}
 use Rattle.ep_base.specs.declared.object.End.TheVariants.{First, Second}
@@ -14,6 +15,7 @@ use Rattle.ep_table.specs.Stored.{AllBacked, AllFewer, AllOwned, Backs, IsStore,
 use Rattle.ep_table.specs.Value.{AddsKey, InsertsOne, InsertsTwo, Queue, Things}
 use Rattle.ep_table.specs.declared.store.Store.TheInside.{Inside}
 use Rattle.ep_table.specs.declared.words.Description.{Description}
+use Rattle.ep_table.specs.declared.words.Dying.{Dying}
 use Rattle.ep_table.specs.declared.words.Shared.{Shared}
 use Rattle.ep_table.proofs.ByNumberLemmas.{contents_length, contents_more, numbered_more}
 use Rattle.ep_table.proofs.QueueLemmas.{queue_more}
@@ -113,6 +115,27 @@ pub record Holds (ds : List (Option Description)) (os : List (Option Shared)) (n
 
 pub holds_of : {A : Type 0} (k : Inside A) → IsStore k → Holds k.descriptions.slots k.objects.slots k.described k.made
 holds_of k inv = record { descriptions = inv.descriptions; objects = inv.objects; backed = inv.backed; owned = inv.owned }
+
+-- more room changes nothing else
+pub roomier : {A : Type 0} (k : Inside A) → IsStore k → (ds : Slab Description) (os : Slab Shared) (dying : Vec Dying A)
+    → ds.slots ≡ k.descriptions.slots → os.slots ≡ k.objects.slots → dying.items ≡ k.dying.items → vec_capacity k.dying ≤ vec_capacity dying
+    → IsStore (record k { descriptions = ds; objects = os; dying = dying })
+roomier k inv ds os dying e f g room =
+    let len : slab_len ds ≡ slab_len k.descriptions = ap (λ (xs : List (Option Description)). count_by is_some xs) e in
+    record {
+      descriptions = rw e inv.descriptions;
+      objects = rw f inv.objects;
+      backed = rw (e, f) inv.backed;
+      owned = rw (e, f) inv.owned;
+      counted = len ∙ (inv.counted ∙ ap (λ (xs : List (Option Description)). length (numbered 0 (places xs k.described))) (sym e));
+      room = omega (arith, inv.room, room, len);
+      queue = rw (e, g) inv.queue;
+      keyed = rw (e, g) inv.keyed;
+      fewer = rw e inv.fewer;
+      taken = rw f inv.taken;
+      owners = rw f inv.owners;
+      quiet = rw f inv.quiet;
+    }
 
 -- an object with one description
 module _ (ds ds1 : List (Option Description)) (os os1 : List (Option Shared)) (n m key at : ℕ) (x : Object)

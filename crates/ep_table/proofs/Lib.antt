@@ -18,6 +18,7 @@ pub mod SoundLemmas
 pub mod StoreCountsLemmas
 pub mod TakingLemmas
 pub mod OwnersLemmas
+pub mod QuietLemmas
 pub mod AcceptLemmas
 mod TimesLemmas
 pub mod NamesLemmas

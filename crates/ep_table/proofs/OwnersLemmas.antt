@@ -8,7 +8,7 @@ use Rattle.ep_base.specs.declared.object.End.{End}
 use Rattle.ep_base.specs.declared.socket.Name.{Name}
 use Rattle.ep_facts.proofs.NatFacts.{below_or, same_or_not}
 use Rattle.ep_machine.specs.Names.{is_there}
-use Rattle.ep_machine.specs.Objects.{Object, close_end, has_name, name_in}
+use Rattle.ep_machine.specs.Objects.{has_name, name_in}
 use Rattle.ep_names.specs.Names.{Taken, owner_of}
 use Rattle.ep_object.proofs.NamingLemmas.{close_keeps_name}
 use Rattle.ep_object.specs.Naming.{Gains}

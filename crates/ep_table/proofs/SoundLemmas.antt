@@ -17,6 +17,7 @@ use Rattle.ep_table.specs.declared.words.Shared.{Shared}
 use Rattle.ep_table.proofs.CloseLemmas.{contents_has}
 use Rattle.ep_table.proofs.ByNumberLemmas.{content_there, contents_length, has_or, with_none}
 use Rattle.ep_table.proofs.CountsLemmas.{counts_at, counts_length}
+use Rattle.ep_table.proofs.QuietLemmas.{content_quiet}
 use Rattle.ep_table.proofs.StoreLemmas.{key_at, object_is, place_is, thing_is}
 
 -- a description under a key that has a number
@@ -102,6 +103,7 @@ sound_inside k inv = record {
   names_length = counts_length names_in k.descriptions.slots k.described ∙ sym (contents_length number_in place_in k.descriptions.slots k.described);
   holds_length = counts_length holds_in k.descriptions.slots k.described ∙ sym (contents_length number_in place_in k.descriptions.slots k.described);
   queue = inv.queue;
+  quiet = content_quiet k.objects.slots k.made inv.objects inv.quiet;
 }
 
 pub sound_things : {A : Type 0} (k : Inside A) (v : Things) → IsStore k → things k ≡ v → SoundThings v

@@ -109,6 +109,7 @@ module _ {A : Type 0} (k : Inside A) (v : Things) (inv : IsStore k) (same : thin
       fewer = fewer_counted ds n key.0 d is inv.descriptions a b k.named m inv.fewer le most;
       taken = inv.taken;
       owners = inv.owners;
+      quiet = inv.quiet;
     }
 
     -- it stays off the queue

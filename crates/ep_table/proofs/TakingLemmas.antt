@@ -1,5 +1,5 @@
 -- Which names of sockets are taken, as objects come, change and go.
-use Rattle.std.proofs.Common.{Err, Ok, Result, ℤ, ◌≡◌, ◌≢◌, ◌<◌, ◌≤◌, ◌&&◌, ◌++◌, ◌∙◌, ◌∷◌, ◌||◌, [], Bool, List, None, Option, Some, IsSome, ap, arith, false, get_or, inl, inr, is_some, length, min, not, refl, slice_set, subst, suc, sym, true, zero, ℕ}
+use Rattle.std.proofs.Common.{Err, Ok, Result, ℤ, ◌≡◌, ◌≢◌, ◌<◌, ◌≤◌, ◌&&◌, ◌++◌, ◌∙◌, ◌∷◌, ◌||◌, [], Bool, List, None, Option, Some, ap, arith, false, get_or, inl, inr, is_some, length, min, not, refl, slice_set, subst, suc, sym, true, zero, ℕ}
 use Rattle.std.proofs.Math.Bool.{or-true}
 use Rattle.std.proofs.Math.Nat.{lt_of_not-le}
 use Rattle.std.specs.List.{list_any}
@@ -31,7 +31,7 @@ use Rattle.ep_object.proofs.NamingLemmas.{close_keeps_name, nobody_named}
 use Rattle.ep_table.proofs.CloseLemmas.{closed_object}
 use Rattle.ep_table.specs.Closing.{closed_in, other_key}
 use Rattle.ep_table.specs.declared.words.Shared.{Shared}
-use Rattle.ep_table.specs.Taking.{AreApart, FindsFree, IsFree, Taking, freed_with}
+use Rattle.ep_table.specs.Taking.{FindsFree, IsFree, Taking, freed_with}
 
 -- A list in which a place changes.
 module _ {X : Type 0} (p : X → Bool) where

@@ -8,6 +8,7 @@ use Rattle.ep_base.specs.declared.object.End.TheVariants.{First, Second}
 use Rattle.ep_machine.specs.Files.{Place}
 use Rattle.ep_machine.specs.Lists.{numbered}
 use Rattle.ep_machine.specs.Objects.{Object}
+use Rattle.ep_object.specs.Quiet.{IsQuiet}
 use Rattle.ep_table.specs.ByNumber.{NumberedBy, contents_by}
 use Rattle.ep_table.specs.Taking.{AreOwners, Taking}
 use Rattle.ep_table.specs.Value.{Queue, Things, number_at}
@@ -101,6 +102,10 @@ AllBacked ds os = (key : ℕ) (d : Description) → slice_index_or ds key None �
 abbrev pub AllOwned : List (Option Description) → List (Option Shared) → Type 0
 AllOwned ds os = (at : ℕ) (s : Shared) (e : End) (key : DescId) → slice_index_or os at None ≡ Some s → key_at s e ≡ Some key → Owns ds at e key
 
+-- each object is no connection that waits, and none waits at it
+abbrev pub AllQuiet : List (Option Shared) → Type 0
+AllQuiet os = (at : ℕ) (s : Shared) → slice_index_or os at None ≡ Some s → IsQuiet s.object
+
 pub record IsStore {A : Type 0} (k : Inside A) : Type 0 where
   pub descriptions : NumberedBy number_in k.descriptions.slots k.described
   pub objects : NumberedBy object_number_in k.objects.slots k.made
@@ -115,3 +120,4 @@ pub record IsStore {A : Type 0} (k : Inside A) : Type 0 where
   pub fewer : AllFewer k.descriptions.slots k.named
   pub taken : Taking k.taken (things k).objects
   pub owners : AreOwners k.taken k.objects.slots
+  pub quiet : AllQuiet k.objects.slots

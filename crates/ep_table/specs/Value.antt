@@ -10,12 +10,13 @@ use Rattle.ep_base.specs.declared.errno.Errno.{Errno}
 use Rattle.ep_base.specs.declared.ids.DescId.{DescId}
 use Rattle.ep_machine.specs.Effect.{Effect, attempt, first}
 use Rattle.ep_machine.specs.Deaths.{named_in_tables}
-use Rattle.ep_machine.specs.Files.{Files, Place, is_live, numbers_of, object_of, place_of, side_of, under}
+use Rattle.ep_machine.specs.Files.{Files, Place, content_at, is_live, numbers_of, object_of, place_of, side_of, under}
 use Rattle.ep_machine.specs.FilesCalls.{FilesCall}
 use Rattle.ep_machine.specs.Lists.{are_distinct, is_among, place_at}
 use Rattle.ep_machine.specs.Objects.{Object, ObjectCall, object_effect, object_refusals, plain}
 use Rattle.ep_machine.specs.Tables.{affected, create_one, create_two, slot, with_table}
 use Rattle.ep_object.specs.Memory.{object_waiting}
+use Rattle.ep_object.specs.Quiet.{IsQuiet}
 
 pub record Seen : Type 0 where
   pub limits : Limits
@@ -94,6 +95,8 @@ pub record Succeeds (call : FilesCall) (answer : Answer) (old new : Seen) : Type
   pub limits : new.limits ≡ old.limits
   pub keys : KeepsKeys old new
   pub holds : KeepsHolds old new
+  -- nothing waits yet, so nothing is let go
+  pub raised : call.raised ≡ []
 
 pub record Refuses (e : Errno) (answer : Answer) (old new : Seen) : Type 0 where
   pub answers : answer ≡ Refused e
@@ -170,6 +173,8 @@ pub record Sound (v : Seen) : Type 0 where
   pub holds_length : length v.holds ≡ length v.files.descriptions
   pub distinct : are_distinct v.dying ≡ true
   pub dying : (d : ℕ) → is_among v.dying d ≡ is_dying v d
+  -- no connection waits yet
+  pub quiet : (k : ℕ) → IsQuiet (content_at v.files k)
 
 -- descriptions and objects, without tables
 pub record Things : Type 0 where
@@ -217,6 +222,8 @@ pub record SoundThings (v : Things) : Type 0 where
   pub names_length : length v.names ≡ length v.descriptions
   pub holds_length : length v.holds ≡ length v.descriptions
   pub queue : Queue v.descriptions v.names v.holds v.dying
+  -- no connection waits yet
+  pub quiet : (k : ℕ) → IsQuiet (content_at (files_in v) k)
 
 -- an object with one description more, under this key, with one name
 pub record InsertsOne (old new : Things) (key : DescId) (x : Object) : Type 0 where

@@ -290,6 +290,8 @@ impl<A: Allocator> Store<A> {
             names: 1,
             holds: 0,
         });
+        // (only the prover needs it)
+        object.is_quiet();
         self.objects.insert_reserved(Shared {
             number: self.made,
             object,
@@ -334,6 +336,8 @@ impl<A: Allocator> Store<A> {
             holds: 0,
         });
         self.described += 1;
+        // (only the prover needs it)
+        object.is_quiet();
         self.objects.insert_reserved(Shared {
             number: self.made,
             object,
@@ -397,7 +401,7 @@ impl<A: Allocator> Store<A> {
         Ok(shared.object.apply_naming(call))
     }
 
-    /// What always holds.
+    /// What always holds, also that no connection waits to be accepted.
     pub fn known(&self)
         ensures { SoundThings self.now }
     {

@@ -1,8 +1,9 @@
 //! The tables: processes, descriptors, open file descriptions and objects.
-ghost use Rattle.std.specs.Prelude.{◌≡◌, ◌+◌, ◌<◌, ◌≤◌, ◌^◌, ◌∷◌, [], ℕ, false, IfNone, IfOk, IfSome, IsOk, IsSome};
+ghost use Rattle.std.specs.Prelude.{◌≡◌, ◌+◌, ◌<◌, ◌≤◌, ◌^◌, ◌∷◌, [], ℕ, false, Bool, IfNone, IfOk, IfSome, IsOk, IsSome};
 ghost use Rattle.std.specs.Prelude.{None, OnErr, OnOk, Some, is_some, length, map, min, pos, true};
 ghost use Rattle.std.specs.Map.Iter.{ShowsInOrder};
 ghost use Rattle.ep_base.specs.declared.ids.DescId.{DescId};
+ghost use Rattle.ep_machine.specs.Connections.{without_abandoned};
 ghost use Rattle.ep_machine.specs.Deaths.{named_in_tables};
 ghost use Rattle.ep_machine.specs.Effect.{first};
 ghost use Rattle.ep_machine.specs.Lists.{is_among, numbered};
@@ -407,6 +408,8 @@ impl<A: Allocator> Tables<A> {
             (first (dup2_of self.old.limits self.old.files pid.0 fd.0 to.0).refusals ≡ None) }
         ensures err { OnErr result (self.new ≡ self.old) }
     {
+        // (only the prover needs it)
+        self.known();
         let Some(description) = self.lookup(pid, fd) else {
             return Ok(Answer::Refused(Errno::Ebadf));
         };
@@ -441,9 +444,10 @@ impl<A: Allocator> Tables<A> {
     }
 
     /// How accept4(2) of a process that is there is refused. Linux tells of a full table before it looks at what the
-    /// descriptor names.
+    /// descriptor names. The refusals don't go by the close-on-exec flag.
     fn refuses_accept(&self, pid: Pid, fd: Fd) -> Errno
-        ensures { first (accept_of self.now.limits self.now.files pid.0 fd.0).refusals ≡ Some result }
+        ensures { first (accept_of self.now.limits self.now.files pid.0 fd.0 false).refusals
+            ≡ Some result }
     {
         let Some(description) = self.lookup(pid, fd) else {
             return Errno::Ebadf;
@@ -455,6 +459,8 @@ impl<A: Allocator> Tables<A> {
         if !object.is_socket() {
             return Errno::Enotsock;
         }
+        // (only the prover needs it)
+        object.is_quiet();
         match self.refuses_one(pid) {
             Some(errno) => errno,
             None if object.is_listener() => Errno::Eagain,
@@ -464,9 +470,12 @@ impl<A: Allocator> Tables<A> {
 
     /// accept4(2) of a process that is there: nothing waits at a listener yet, so it is refused. EBADF if `fd` names
     /// nothing, EMFILE if none of the process's numbers is free, ENOTSOCK if `fd` names no socket, ENFILE if the limit
-    /// of live descriptions is reached, EINVAL if the socket doesn't listen, else EAGAIN.
+    /// of live descriptions is reached, EINVAL if the socket doesn't listen, else EAGAIN. The close-on-exec flag that
+    /// the call asks for makes no difference.
     pub fn accept(&self, pid: Pid, fd: Fd) -> Answer
-        ensures { Does (accept_of self.now.limits self.now.files pid.0 fd.0) result self.now self.now }
+        ensures { (cloexec : Bool)
+            → Does (accept_of self.now.limits self.now.files pid.0 fd.0 cloexec) result self.now
+            self.now }
     {
         Answer::Refused(self.refuses_accept(pid, fd))
     }
@@ -514,6 +523,8 @@ impl<A: Allocator> Tables<A> {
         requires { IsSome (table_of self.old.files pid.0) }
         ensures { Does (close_of self.old.files pid.0 fd.0) result self.old self.new }
     {
+        // (only the prover needs it)
+        self.known();
         let Some(description) = self.lookup(pid, fd) else {
             return Answer::Refused(Errno::Ebadf);
         };
@@ -524,12 +535,17 @@ impl<A: Allocator> Tables<A> {
     }
 
     /// execve(2): closes the numbers of a process that is there whose close-on-exec flag is on. It is
-    /// never refused. The time is that of going through its table.
+    /// never refused. No connection waits yet, so none is let go. The time is that of going through its
+    /// table.
     pub fn exec(&mut self, pid: Pid)
         requires { IsSome (table_of self.old.files pid.0) }
-        ensures { self.new ≡ record self.old
+        ensures files { self.new ≡ record self.old
             { files = exec self.old.files pid.0; dying = self.new.dying } }
+        ensures quiet { without_abandoned (exec self.old.files pid.0)
+            ≡ (exec self.old.files pid.0, []) }
     {
+        // (only the prover needs it)
+        self.known();
         if let Some(table) = table_at(&self.processes, pid) {
             drop_names(&mut self.store, &table.slots, false);
             close_flagged(&mut self.processes, pid);
@@ -537,12 +553,17 @@ impl<A: Allocator> Tables<A> {
     }
 
     /// _exit(2): closes all numbers of a process that is there and ends it. Its number is never used
-    /// again. It is never refused. The time is that of going through its table.
+    /// again. It is never refused. No connection waits yet, so none is let go. The time is that of going
+    /// through its table.
     pub fn exit(&mut self, pid: Pid)
         requires { IsSome (table_of self.old.files pid.0) }
-        ensures { self.new ≡ record self.old
+        ensures files { self.new ≡ record self.old
             { files = exit self.old.files pid.0; dying = self.new.dying } }
+        ensures quiet { without_abandoned (exit self.old.files pid.0)
+            ≡ (exit self.old.files pid.0, []) }
     {
+        // (only the prover needs it)
+        self.known();
         if let Some(table) = table_at(&self.processes, pid) {
             drop_names(&mut self.store, &table.slots, true);
             end(&mut self.processes, pid);
@@ -728,7 +749,8 @@ impl<A: Allocator> Tables<A> {
 
     /// What always holds: no number stands under two keys, a key's number is live and has an object,
     /// what lives or is named has a key, what is no more isn't held, and the queue of the dying has
-    /// exactly the live descriptions that no table names and no waiter holds, each once.
+    /// exactly the live descriptions that no table names and no waiter holds, each once. No connection
+    /// waits to be accepted.
     pub fn known(&self)
         ensures { Sound self.now }
     {

@@ -1,5 +1,5 @@
 -- In each state of a run what holds at the end of each event holds, and no waiter is forgotten.
-use Rattle.std.proofs.Common.{ap, ◌≡◌, ◌==◌, ℕ, zero, suc, ◌+◌, ◌≤◌, ◌&&◌, ◌++◌, All, Bool, List, [], ◌∷◌, MatchOption, None, Option, Some, ℤ, pos, negsuc, true, false, not, arith, cond, filter, get_or, inl, inr, if◌then◌else◌, is_none, is_some, map, nat_eq, nat_lt, refl, subst, sym, ◌∙◌, unwrap_or}
+use Rattle.std.proofs.Common.{ap, ◌≡◌, ◌==◌, ℕ, zero, suc, ◌+◌, ◌≤◌, ◌&&◌, ◌++◌, All, Bool, List, [], ◌∷◌, MatchOption, None, Option, Some, ℤ, pos, negsuc, true, false, not, arith, cond, filter, get_or, inl, inr, if◌then◌else◌, is_none, map, nat_eq, nat_lt, refl, subst, sym, ◌∙◌, unwrap_or}
 use Rattle.std.specs.List.{AllByRecursion, IsDistinct}
 use Rattle.std.proofs.lemmas.Bool.{not-false}
 use Rattle.std.proofs.lemmas.Bool.Decides.{nat_tests}
@@ -16,7 +16,7 @@ use Rattle.ep_base.specs.declared.errno.Errno.TheVariants.{Esrch, Ebusy}
 use Rattle.ep_base.specs.declared.record.Record.{Record}
 use Rattle.ep_machine.specs.Run.{run}
 use Rattle.ep_machine.specs.Settle.{settle}
-use Rattle.ep_law.proofs.ShapeLemmas.{by_making, by_shape}
+use Rattle.ep_law.proofs.ShapeLemmas.{by_making, by_shape, by_joined}
 use Rattle.ep_law.proofs.StepLemmas.{run_keeps, resumes, change_counted}
 use Rattle.ep_machine.specs.Bits.{ONESHOT, has_bit}
 use Rattle.ep_machine.specs.Effect.{first}
@@ -30,7 +30,7 @@ use Rattle.ep_machine.specs.Readiness.{is_ready}
 use Rattle.ep_machine.specs.Refusal.{call_refusals, ctl_refusals, on_object, refusals, wait_refusals}
 use Rattle.ep_machine.specs.Report.{is_pick, plainly, report, report_of, reported, watches_at}
 use Rattle.ep_machine.specs.State.{Change, State, Waiter, Watch, counts_of, opening}
-use Rattle.ep_machine.specs.Step.{next_event, call_change, change, files_change, object_change, refused_or, settled, step}
+use Rattle.ep_machine.specs.Step.{next_event, call_change, change, files_change, object_change, refused_or, settled, step, joined}
 use Rattle.ep_machine.specs.Timer.{last_moment}
 use Rattle.ep_machine.specs.Waits.{has_parked, is_parked, leave_after, resume, tick, unmark, unmarked, wait, wait_for, leave}
 use Rattle.ep_machine.specs.Watches.{add, ctl, delete, has_key, is_add, is_del, modified, modify, new_watch, number_in}
@@ -43,6 +43,14 @@ use Rattle.std.proofs.lemmas.Option.{none-some}
 use Rattle.ep_facts.proofs.OptionFacts.{some_not_none}
 use Rattle.ep_law.specs.Narrow.{IsRegular}
 use Rattle.ep_law.proofs.RegularLemmas.{WellMade, regular_settle, well_made_opening, well_made_step}
+use Rattle.ep_law.proofs.ReplaceLemmas.{found_listens}
+use Rattle.ep_view.proofs.FilesLemmas.{filed_join, extends_join, filed_abandoned, extends_abandoned, extends_trans, filed_accept, extends_accept}
+use Rattle.ep_machine.specs.Connections.{accept, first_waiting, pending_in, join, without_abandoned}
+use Rattle.ep_law.proofs.InstanceLemmas.{first_waits}
+use Rattle.ep_base.specs.declared.call.Call.TheVariants.{Accept}
+use Rattle.ep_machine.specs.Unconnected.{Idle}
+use Rattle.ep_machine.specs.Tables.{close, dup2, exec, exit}
+use Rattle.ep_object.specs.Connecting.{IsIdle}
 
 -- In each state of a run no waiter is forgotten, and the rest of what holds at the end of each event holds.
 
@@ -94,11 +102,40 @@ object_extends s p fd asked h there =
     let live = some_not_none (place_of s.files d) (named_lives s.files p fd (filed s h) there) in
     extends_with_object s.files k x (λ shows. effect_kind _ (side_under s.files p fd) s.now asked ∙ (kind_there (object_of s.files d) ∙ kind_at s.files (place_of s.files d) live))
 
-quiet_object_change : (s : State) (p : ℕ) (fd : ℤ) (asked : ObjectCall) → AtRest s → names_nothing s.files p fd ≡ false → Changed (object_change s p fd asked).1
-quiet_object_change s p fd asked h there =
+-- a change of the files only
+record IsFiled (s : State) (c : Change) : Type 0 where
+  pub after : Files
+  pub is : c.1 ≡ record s { files = after }
+  pub filed : Filed after
+  pub extends : Extends s.files after
+
+idle_under : (f : Files) (o : Option Place) (x : Idle) → IsIdle (unwrap_or (object_at f o) plain) x → IsIdle (unwrap_or (get_or f.objects (object_number o) None) plain) x
+idle_under f None x h = cc
+idle_under f (Some p) x h = h
+
+-- a call on an object, with the join that a connect is
+filed_object_change : (limits : Limits) (s : State) (p : ℕ) (call : Call) (fd : ℤ) (asked : ObjectCall) → AtRest s → names_nothing s.files p fd ≡ false → IsFiled s (joined limits p call (object_change s p fd asked))
+filed_object_change limits s p call fd asked h there =
     let k = object_number (place_of s.files (named_by s.files p fd)) in
     let x = (object_effect (object_under s.files p fd) (side_under s.files p fd) s.now asked).1 in
-    quiet_files s _ h (filed_with_object s.files k x (filed s h)) (object_extends s p fd asked h there)
+    let c = object_change s p fd asked in
+    let g = c.1.files in
+    let one : IsFiled s c = record { after = g; is = refl; filed = filed_with_object s.files k x (filed s h); extends = object_extends s p fd asked h there } in
+    by_joined limits p (IsFiled s) call c one (λ at name i m same under found unix.
+    let o = place_of g (named_by g p at.0) in
+    let listens = found_listens g name m found in
+    let is_idle = idle_under g o i under in
+    record {
+      after = (join limits.sock_bytes g (object_number o) i name m).0;
+      is = refl;
+      filed = filed_join limits.sock_bytes g (object_number o) m i listens.0 name is_idle listens.1 one.filed;
+      extends = extends_trans s.files g _ one.extends (extends_join limits.sock_bytes g (object_number o) m i listens.0 name is_idle listens.1);
+    })
+
+quiet_object_change : (limits : Limits) (s : State) (p : ℕ) (call : Call) (fd : ℤ) (asked : ObjectCall) → AtRest s → names_nothing s.files p fd ≡ false → Changed (joined limits p call (object_change s p fd asked)).1
+quiet_object_change limits s p call fd asked h there =
+    let c = filed_object_change limits s p call fd asked h there in
+    subst Changed (sym c.is) (quiet_files s c.after h c.filed c.extends)
 
 quiet_watches : (s : State) (xs : List Watch) (added : ℕ) → AtRest s → All (λ x. IsSteady s.files x.instance x.target) xs → All (λ x. HasSeen x.seen (counts_of s x.target)) xs → Changed (record s { watches = xs; added = added })
 quiet_watches s xs added h steady seen = let was = weaken s h in record { now = h.now; placed = h.placed; lives = was.lives; watches = steady; seen = seen; waiting = h.waiting; callers = h.callers }
@@ -270,6 +307,18 @@ module _ (limits : Limits) (s : State) (caller p : ℕ) (ks : List ℕ) (h : AtR
   fine_on_files : (call : Call) → Filed (on_files call).after → Extends s.files (on_files call).after → Fine (plainly ks (files_change s (on_files call)))
   fine_on_files call = fine_files s (on_files call) ks h
 
+  accept_is_filed : (fd : ℤ) (cloexec : Bool) → is_none (get_or s.files.tables p None) ≡ false → (o : Option ℕ) → first_waiting s.files (pending_in (object_under s.files p fd)) ≡ o
+      → let g = accept s.files p (object_number (place_of s.files (named_by s.files p fd))) o cloexec in Filed g × Extends s.files g
+  accept_is_filed fd cloexec there None is = (f, same_tables s.files s.files.tables)
+  accept_is_filed fd cloexec there (Some k) is =
+      let m = object_number (place_of s.files (named_by s.files p fd)) in
+      let waits = first_waits s.files _ k is in
+      (filed_accept s.files m k waits p cloexec there f, extends_accept s.files m k waits p cloexec)
+
+  -- with what is left waiting gone
+  let_go_filed : (g : Files) → Filed g → Extends s.files g → Filed (without_abandoned g).0 × Extends s.files (without_abandoned g).0
+  let_go_filed g k e = (filed_abandoned g k, extends_trans s.files g _ e (extends_abandoned g))
+
   files_are_fine : (call : Call) → IsFine call (on_files call).refusals (plainly ks (files_change s (on_files call)))
   files_are_fine (PipeCall cloexec) tests = fine_on_files (PipeCall cloexec) (filed_two s.files p _ cloexec tests.0 f) (extends_two s.files p _ cloexec)
   files_are_fine (EventFd init semaphore cloexec) tests = fine_on_files (EventFd init semaphore cloexec) (filed_one s.files p _ cloexec tests.0 f) (extends_one s.files p _ cloexec)
@@ -282,11 +331,15 @@ module _ (limits : Limits) (s : State) (caller p : ℕ) (ks : List ℕ) (h : AtR
   files_are_fine (Dup2 fd to) tests =
       let d = named_by s.files p fd.0 in
       let lives = named_lives s.files p fd.0 f tests.1.0 in
-      fine_on_files (Dup2 fd to) (filed_dup2 s.files p fd.0 to.0 d f lives) (extends_dup2 s.files p fd.0 to.0 d)
-  files_are_fine (Close fd) tests = fine_on_files (Close fd) (filed_close s.files p fd.0 f) (same_tables s.files _)
+      let left = let_go_filed (dup2 s.files p fd.0 to.0 d) (filed_dup2 s.files p fd.0 to.0 d f lives) (extends_dup2 s.files p fd.0 to.0 d) in
+      fine_on_files (Dup2 fd to) left.0 left.1
+  files_are_fine (Accept fd cloexec) tests =
+      let both = accept_is_filed fd.0 cloexec tests.0 (first_waiting s.files (pending_in (object_under s.files p fd.0))) refl in
+      fine_on_files (Accept fd cloexec) both.0 both.1
+  files_are_fine (Close fd) tests = let left = let_go_filed (close s.files p fd.0) (filed_close s.files p fd.0 f) (same_tables s.files _) in fine_on_files (Close fd) left.0 left.1
   files_are_fine Fork tests = fine_on_files Fork (filed_fork s.files p f) (same_tables s.files _)
-  files_are_fine Exec tests = fine_on_files Exec (filed_exec s.files p f) (same_tables s.files _)
-  files_are_fine Exit tests = fine_on_files Exit (filed_exit s.files p f) (same_tables s.files _)
+  files_are_fine Exec tests = let left = let_go_filed (exec s.files p) (filed_exec s.files p f) (same_tables s.files _) in fine_on_files Exec left.0 left.1
+  files_are_fine Exit tests = let left = let_go_filed (exit s.files p) (filed_exit s.files p f) (same_tables s.files _) in fine_on_files Exit left.0 left.1
   files_are_fine call tests = fine_on_files call f (same_tables s.files s.files.tables)
 
   fine_call : (call : Call) → IsFine call (call_refusals limits s p call) (call_change limits s caller p call ks)
@@ -294,7 +347,7 @@ module _ (limits : Limits) (s : State) (caller p : ℕ) (ks : List ℕ) (h : AtR
       by_shape limits s caller p ks IsFine
       (λ epfd op fd mask tag tests. fine_plainly ks _ (quiet_ctl limits s p epfd.0 op fd.0 mask.0 tag h tests.1))
       (λ epfd most timeout tests. fine_wait s caller p epfd.0 most timeout ks h free tests.1)
-      (λ on fd asked is tests. fine_plainly ks _ (quiet_object_change s p fd.0 asked h tests.1.0))
+      (λ on fd asked is tests. fine_plainly ks _ (quiet_object_change limits s p on fd.0 asked h tests.1.0))
       (λ on is tests. files_are_fine on tests)
       call
 
@@ -379,7 +432,9 @@ extends_same f g places objects = subst (Extends f) (λ i. record g { descriptio
 -- a call on the tables alone leaves what is there as it was
 pub extends_call : (limits : Limits) (f : Files) (p : ℕ) (busy : Bool) (call : Call) → Extends f (files_call limits f p busy call).after
 extends_call limits f p busy =
-    by_making limits f p busy (Extends f) (λ x cloexec has. extends_one f p x cloexec) (λ x cloexec has also. extends_two f p x cloexec) (extends_same f)
+    by_making limits f p busy (λ of g raised. Extends f g) (λ of x cloexec has. extends_one f p x cloexec) (λ of x cloexec has also. extends_two f p x cloexec) (λ of. extends_same f)
+    (λ of g places objects. extends_trans f g _ (extends_same f g places objects) (extends_abandoned g))
+    (λ fd cloexec k is. extends_accept f (object_number (place_of f (named_by f p fd.0))) k (first_waits f _ k is) p cloexec)
 
 abbrev Reaches : Files → Option Change → Type 0
 Reaches f o = (made : Change) → o ≡ Some made → Extends f made.1.files
@@ -420,7 +475,9 @@ call_reaches limits s caller p call ks h =
     reaches_if s.files (is_ready s e) (report s e (number_in most) ks) (plainly ks (wait_for s caller p e (number_in most) timeout))
     (reports_reach s e (number_in most) ks)
     (reaches_plainly s.files ks _ (waits_extend s caller p e (number_in most) timeout)))
-    (λ on fd asked is allowed. reaches_plainly s.files ks _ (object_extends s p fd.0 asked h (none_holds (on_object s p fd.0 asked) allowed).0))
+    (λ on fd asked is allowed.
+    let c = filed_object_change limits s p on fd.0 asked h (none_holds (on_object s p fd.0 asked) allowed).0 in
+    reaches_plainly s.files ks _ (subst (λ (t : State). Extends s.files t.files) (sym c.is) c.extends))
     (λ on is allowed. reaches_plainly s.files ks _ (extends_call limits s.files p (has_parked s p) on))
     call
 

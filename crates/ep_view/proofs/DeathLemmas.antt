@@ -6,7 +6,7 @@ use Rattle.ep_base.specs.declared.object.End.TheVariants.{First, Second}
 use Rattle.ep_machine.specs.Deaths.{kept_object, die_all}
 use Rattle.ep_machine.specs.Files.{Files, Place, is_live, object_at, object_of, place_of, raised_at}
 use Rattle.ep_machine.specs.Lists.{are_distinct, is_among}
-use Rattle.ep_machine.specs.Objects.{Object, close_end, plain}
+use Rattle.ep_machine.specs.Objects.{Object, close_end, plain, is_waiting}
 use Rattle.ep_view.specs.AtRest.{can_be_watched, is_backed, kind_of}
 use Rattle.ep_law.proofs.DeathLemmas.{ArePlaced, after_all, after_first, apart_from_rest, get_other, get_place, has_here, numbers, still_placed, raised_before, same_dead}
 use Rattle.ep_law.proofs.NamedLivesLemmas.{get_none, if_twice, place_after, places_left}
@@ -52,7 +52,7 @@ module _ (f : Files) (x : ℕ × Place) (is : place_of f x.0 ≡ Some x.1) (back
   -- the object of what lives on
   object_after : (d : ℕ) (p : Place) → get_or gone d None ≡ Some p → (g.objects ≡ set f.objects k (Some shut)) ⊎ (get_or g.objects p.object None ≡ get_or f.objects p.object None)
   object_after d p here = elim (same_or_not p.object k) [
-    | inl e ↦ inl (ap (λ (b : Bool). set f.objects k (if b then Some shut else None)) (has_here k 0 d gone p here e))
+    | inl e ↦ inl (ap (λ (b : Bool). set f.objects k (if b || is_waiting shut then Some shut else None)) (has_here k 0 d gone p here e))
     | inr ne ↦ inr (get_other f.objects k p.object (kept_object (record f { descriptions = gone }) k shut) (λ e. ne (sym e)))
   ]
 

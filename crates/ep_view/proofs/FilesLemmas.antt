@@ -2,18 +2,30 @@
 use Rattle.std.proofs.Common.{nat_lt, ◌<◌, ◌≡◌, ◌≢◌, ℕ, zero, suc, ◌==◌, ◌||◌, ◌⊎◌, ◌++◌, ◌∙◌, Bool, List, [], ◌∷◌, None, Option, Some, ℤ, pos, negsuc, true, false, ap, arith, get_or, if◌then◌else◌, inl, inr, is_none, is_some, length, map, refl, set, subst, sym, unwrap_or}
 use Rattle.std.specs.List.{filter_map}
 use Rattle.std.proofs.lemmas.Bool.{false≢true}
-use Rattle.std.proofs.lemmas.Bool.Decides.{nat_tests}
 use Rattle.ep_facts.proofs.NatFacts.{from_test, same_nat, same_or_not, suc_is_not_zero}
 use Rattle.ep_facts.proofs.BoolFacts.{or_cases, or_left, or_right}
 use Rattle.ep_facts.proofs.AmongFacts.{among_append}
 use Rattle.ep_base.specs.declared.object.End.{End}
-use Rattle.ep_machine.specs.Deaths.{named_in, named_in_tables}
+use Rattle.ep_machine.specs.Deaths.{named_in, named_in_tables, kept_object}
 use Rattle.ep_machine.specs.Files.{Files, Place, Slot, Table, description_in, is_live, named_by, names_nothing, numbers_of, object_at, object_of, opening_files, place_of, slot_under, table_of, with_object}
 use Rattle.ep_machine.specs.Lists.{enter, is_among, place_at}
-use Rattle.ep_machine.specs.Objects.{Object}
+use Rattle.ep_machine.specs.Objects.{Object, plain, is_plain, is_waiting, close_end}
 use Rattle.ep_view.specs.AtRest.{can_be_watched, is_backed, kind_of}
 use Rattle.ep_machine.specs.State.{Waiter}
 use Rattle.ep_machine.specs.Tables.{close, create_one, create_two, describe, dup, dup2, exec, exit, fork, kept_by_exec, new_object, same_number, slot, with_table}
+use Rattle.ep_machine.specs.Connections.{with_pending, without_pending, accepted, let_go, let_all_go, without_abandoned, abandoned, accept, join}
+use Rattle.ep_base.specs.declared.object.End.TheVariants.{Second}
+use Rattle.ep_law.proofs.DeathLemmas.{has_here, get_other}
+use Rattle.ep_view.proofs.KindLemmas.{closed_kind, kind_of_number, same_kind}
+use Rattle.ep_machine.specs.Unconnected.{Idle}
+use Rattle.ep_machine.specs.Listening.{Listener}
+use Rattle.ep_base.specs.declared.socket.Name.{Name}
+use Rattle.ep_machine.specs.Files.{object_of}
+use Rattle.std.proofs.Common.{sym, ap, unwrap_or, set, nat_lt}
+use Rattle.ep_object.specs.Kinds.{kind_number}
+use Rattle.ep_object.proofs.ConnectionLemmas.{waiting_kind, accepted_kind, without_kind, pending_kind, idle_kind, listener_kind, idle_plain, listener_plain}
+use Rattle.ep_object.specs.Connecting.{IsIdle, IsListener, connection}
+use Rattle.ep_object.proofs.ConnectionLemmas.{by_test}
 
 -- the part of a changed state that is about its files
 pub record Filed (f : Files) : Type 0 where
@@ -220,6 +232,158 @@ filed_with_object f k x h = record { placed = λ d. placed_at (place_of f d) (h.
   placed_at : (p : Option Place) → is_backed f p ≡ true → is_backed (with_object f k x) p ≡ true
   placed_at None e = e
   placed_at (Some p) e = some_set f.objects k p.object x e
+
+-- What connections change of objects that others have.
+abbrev content : Files → ℕ → Object
+content f k = unwrap_or (get_or f.objects k None) plain
+
+-- what connects or listens can be watched, and so can what waits
+shows_two : (o : Option Object) → is_plain (unwrap_or o plain) ≡ false → kind_number (unwrap_or o plain) ≡ 6 → kind_of o ≡ 2
+shows_two None shown is = absurd (false≢true (sym shown))
+shows_two (Some x) shown is = kind_of_number x 6 is
+
+waiting_shows : (x : Object) → is_waiting x ≡ true → kind_of (Some x) ≡ 2
+waiting_shows x w = kind_of_number x 2 (waiting_kind x w)
+
+accepted_shows : (x : Object) → is_waiting x ≡ true → kind_of (Some (accepted x)) ≡ 2
+accepted_shows x w = kind_of_number (accepted x) 2 (accepted_kind x ∙ waiting_kind x w)
+
+waits_there : (o : Option Object) → is_waiting (unwrap_or o plain) ≡ true → kind_of o ≡ 2
+waits_there None w = absurd (false≢true w)
+waits_there (Some x) w = waiting_shows x w
+
+-- One that waits is let go.
+module _ (f : Files) (k : ℕ) (waits : is_waiting (content f k) ≡ true) where
+  abbrev shut : Object
+  shut = (close_end (content f k) Second).0
+
+  abbrev left : Files
+  left = record f { objects = set f.objects k (kept_object f k shut) }
+
+  kept : (d : ℕ) (p : Place) → place_of f d ≡ Some p → p.object ≡ k → kept_object f k shut ≡ Some shut
+  kept d p here at = ap (λ (b : Bool). if b || is_waiting shut then Some shut else None) (has_here k 0 d f.descriptions p here at)
+
+  there : kind_of (get_or f.objects k None) ≡ 2
+  there = waits_there (get_or f.objects k None) waits
+
+  shut_kind : kind_of (Some shut) ≡ 2
+  shut_kind = closed_kind (content f k) Second ∙ waiting_shows (content f k) waits
+
+  same_kind_there : (d : ℕ) (p : Place) → place_of f d ≡ Some p → kind_of (get_or (set f.objects k (kept_object f k shut)) p.object None) ≡ kind_of (get_or f.objects p.object None)
+  same_kind_there d p here = elim (same_or_not p.object k) [
+    | inl at ↦
+        ap (λ (q : Option Object). kind_of (get_or (set f.objects k q) p.object None)) (kept d p here at)
+        ∙ watched_set f.objects k p.object shut (λ w. shut_kind ∙ sym there) (ap (λ (j : ℕ). can_be_watched (get_or f.objects j None)) at ∙ ap (nat_lt 0) there)
+    | inr other ↦ ap kind_of (get_other f.objects k p.object (kept_object f k shut) (λ e. other (sym e)))
+  ]
+
+  backed_there : (d : ℕ) (p : Place) → place_of f d ≡ Some p → is_some (get_or f.objects p.object None) ≡ true → is_some (get_or (set f.objects k (kept_object f k shut)) p.object None) ≡ true
+  backed_there d p here h = elim (same_or_not p.object k) [
+    | inl at ↦ ap (λ (q : Option Object). is_some (get_or (set f.objects k q) p.object None)) (kept d p here at) ∙ some_set f.objects k p.object shut h
+    | inr other ↦ ap is_some (get_other f.objects k p.object (kept_object f k shut) (λ e. other (sym e))) ∙ h
+  ]
+
+  waiting_extends : Extends f left
+  waiting_extends = record { lives = λ d e. e; shows = λ d e. at d (place_of f d) refl } where
+    at : (d : ℕ) (o : Option Place) → place_of f d ≡ o → kind_of (object_of left d) ≡ kind_of (object_of f d)
+    at d None is = ap (λ (o : Option Place). kind_of (object_at left o)) is ∙ sym (ap (λ (o : Option Place). kind_of (object_at f o)) is)
+    at d (Some p) is = ap (λ (o : Option Place). kind_of (object_at left o)) is ∙ (same_kind_there d p is ∙ sym (ap (λ (o : Option Place). kind_of (object_at f o)) is))
+
+  waiting_filed : Filed f → Filed left
+  waiting_filed h = record { placed = λ d. at d (place_of f d) refl (h.placed d); lives = h.lives } where
+    at : (d : ℕ) (o : Option Place) → place_of f d ≡ o → is_backed f (place_of f d) ≡ true → is_backed left (place_of f d) ≡ true
+    at d None is e = ap (is_backed left) is
+    at d (Some p) is e = ap (is_backed left) is ∙ backed_there d p is (sym (ap (is_backed f) is) ∙ e)
+
+-- the files afterwards
+record Grows (f g : Files) : Type 0 where
+  pub extends : Extends f g
+  pub filed : Filed f → Filed g
+
+grows_self : (f : Files) → Grows f f
+grows_self f = record { extends = record { lives = λ d e. e; shows = λ d e. refl }; filed = λ h. h }
+
+grows_go : (f : Files) (raised : List (ℕ × ℕ)) (k : ℕ) → Grows f (let_go (f, raised) k).0
+grows_go f raised k =
+    by_test (λ (now : Files × List (ℕ × ℕ)). Grows f now.0) (is_waiting (content f k)) _ (f, raised)
+    (λ waits. record { extends = waiting_extends f k waits; filed = waiting_filed f k waits }) (λ waits. grows_self f)
+
+grows_all_go : (f : Files) (raised : List (ℕ × ℕ)) (ks : List ℕ) → Grows f (let_all_go (f, raised) ks).0
+grows_all_go f raised [] = grows_self f
+grows_all_go f raised (k ∷ ks) =
+    let one = grows_go f raised k in
+    let next = let_go (f, raised) k in
+    let rest = grows_all_go next.0 next.1 ks in
+    record { extends = extends_trans f next.0 (let_all_go next ks).0 one.extends rest.extends; filed = λ h. rest.filed (one.filed h) }
+
+pub extends_abandoned : (f : Files) → Extends f (without_abandoned f).0
+extends_abandoned f = (grows_all_go f [] (abandoned f)).extends
+
+pub filed_abandoned : (f : Files) → Filed f → Filed (without_abandoned f).0
+filed_abandoned f h = (grows_all_go f [] (abandoned f)).filed h
+
+-- One is accepted.
+module _ (f : Files) (m k : ℕ) (waits : is_waiting (content f k) ≡ true) where
+  abbrev listens : Object
+  listens = without_pending k (content f m)
+
+  abbrev without : Files
+  without = with_object f m listens
+
+  abbrev taken : Files
+  taken = with_object without k (accepted (content f k))
+
+  keeps_listener : can_be_watched (get_or f.objects m None) ≡ true → kind_of (Some listens) ≡ kind_of (get_or f.objects m None)
+  keeps_listener = at (get_or f.objects m None) where
+    at : (o : Option Object) → can_be_watched o ≡ true → kind_of (Some (without_pending k (unwrap_or o plain))) ≡ kind_of o
+    at None w = absurd (false≢true w)
+    at (Some x) w = same_kind x (without_pending k x) (without_kind k x)
+
+  two_there : kind_of (get_or f.objects k None) ≡ 2
+  two_there = waits_there (get_or f.objects k None) waits
+
+  two_without : kind_of (get_or without.objects k None) ≡ 2
+  two_without = watched_set f.objects m k listens keeps_listener (ap (nat_lt 0) two_there) ∙ two_there
+
+  taken_extends : Extends f taken
+  taken_extends =
+      extends_trans f without taken (extends_with_object f m listens keeps_listener)
+      (extends_with_object without k (accepted (content f k)) (λ w. accepted_shows (content f k) waits ∙ sym two_without))
+
+  taken_there : is_some (get_or taken.objects k None) ≡ true
+  taken_there = some_set without.objects k k (accepted (content f k)) (some_set f.objects m k listens (watched_is_some _ (ap (nat_lt 0) two_there)))
+
+  pub extends_accept : (p : ℕ) (cloexec : Bool) → Extends f (accept f p m (Some k) cloexec)
+  extends_accept p cloexec = extends_trans f taken (accept f p m (Some k) cloexec) taken_extends (extends_describe taken p k Second cloexec)
+
+  pub filed_accept : (p : ℕ) (cloexec : Bool) → is_none (table_of f p) ≡ false → Filed f → Filed (accept f p m (Some k) cloexec)
+  filed_accept p cloexec there h =
+      filed_describe taken p k Second cloexec there taken_there (filed_with_object without k (accepted (content f k)) (filed_with_object f m listens h))
+
+-- One joins who listens.
+module _ (capacity : ℕ) (f : Files) (k m : ℕ) (x : Idle) (l : Listener) (name : Name) (is_idle : IsIdle (content f k) x) (is : IsListener (content f m) l) where
+  abbrev made_pair : Object
+  made_pair = connection capacity x name
+
+  abbrev connected : Files
+  connected = with_object f k made_pair
+
+  idle_there : can_be_watched (get_or f.objects k None) ≡ true → kind_of (Some made_pair) ≡ kind_of (get_or f.objects k None)
+  idle_there w = sym (shows_two (get_or f.objects k None) (idle_plain (content f k) x is_idle) (idle_kind (content f k) x is_idle))
+
+  listener_there : kind_of (get_or f.objects m None) ≡ 2
+  listener_there = shows_two (get_or f.objects m None) (listener_plain (content f m) l is) (listener_kind (content f m) l is)
+
+  listener_still : kind_of (get_or connected.objects m None) ≡ 2
+  listener_still = watched_set f.objects k m made_pair idle_there (ap (nat_lt 0) listener_there) ∙ listener_there
+
+  pub extends_join : Extends f (join capacity f k x name m).0
+  extends_join =
+      extends_trans f connected (join capacity f k x name m).0 (extends_with_object f k made_pair idle_there)
+      (extends_with_object connected m (with_pending k (content f m)) (λ w. kind_of_number (with_pending k (content f m)) 6 (pending_kind k (content f m) ∙ listener_kind (content f m) l is) ∙ sym listener_still))
+
+  pub filed_join : Filed f → Filed (join capacity f k x name m).0
+  filed_join h = filed_with_object connected m (with_pending k (content f m)) (filed_with_object f k made_pair h)
 
 -- What a descriptor number names lives.
 pub named_lives : (f : Files) (p : ℕ) (fd : ℤ) → Filed f → names_nothing f p fd ≡ false → is_live f (named_by f p fd) ≡ true

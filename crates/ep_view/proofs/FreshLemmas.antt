@@ -1,5 +1,5 @@
 -- What is raised in parts, and which registrations that makes fresh.
-use Rattle.std.proofs.Common.{◌≡◌, ℕ, zero, suc, ◌+◌, ◌≤◌, ◌==◌, ◌&&◌, ◌||◌, ◌∙◌, Bool, true, false, List, [], ◌∷◌, None, Option, Some, ap, arith, bit_or, cond, filter, get_or, inl, inr, is_some, nat_lt, refl, subst, sym, ◌<◌, ◌++◌, All, append_assoc, append-nil, bit_and, map, max, min, not}
+use Rattle.std.proofs.Common.{◌≡◌, ℕ, zero, suc, ◌+◌, ◌≤◌, ◌==◌, ◌&&◌, ◌||◌, ◌∙◌, Bool, true, false, List, [], ◌∷◌, None, Option, Some, ap, arith, bit_or, cond, filter, get_or, inl, inr, is_some, nat_lt, refl, subst, sym, ◌<◌, ◌++◌, append_assoc, append-nil, bit_and, map, max, min, not}
 use Rattle.std.proofs.lemmas.Bool.{cases_Bool, false≢true}
 use Rattle.std.proofs.lemmas.Bool.Decides.{nat_tests}
 use Rattle.ep_base.specs.declared.counts.Counts.{Counts}

@@ -6,8 +6,6 @@ use Rattle.ep_view.specs.KernelView.{KernelWatch, kernel_watches, kernel_watch, 
 use Rattle.ep_machine.specs.Readiness.{is_ready, is_ready_within, is_reportable, is_reportable_by, reportables, shown, shown_by}
 use Rattle.ep_machine.specs.Report.{report_of}
 use Rattle.ep_machine.specs.State.{State, Watch}
-use Rattle.ep_machine.specs.Watches.{is_legal, links}
-use Rattle.ep_law.proofs.ReadinessLemmas.{ready_equation}
 
 any_where : (p q : Watch → Bool) (xs : List Watch) → ((x : Watch) → p x ≡ q x) → list_any p xs ≡ list_any q xs
 any_where p q [] h = refl

@@ -34,7 +34,10 @@ kind_by_number : (x : Object) → kind_of (Some x) ≡ cond (kind_number x == 0)
 kind_by_number plain = refl
 kind_by_number x = refl
 
-same_kind : (x y : Object) → kind_number y ≡ kind_number x → kind_of (Some y) ≡ kind_of (Some x)
+pub kind_of_number : (x : Object) (n : ℕ) → kind_number x ≡ n → kind_of (Some x) ≡ cond (n == 0) 0 (cond (n == 5) 1 2)
+kind_of_number x n is = kind_by_number x ∙ ap (λ (k : ℕ). cond (k == 0) 0 (cond (k == 5) 1 2)) is
+
+pub same_kind : (x y : Object) → kind_number y ≡ kind_number x → kind_of (Some y) ≡ kind_of (Some x)
 same_kind x y same = kind_by_number y ∙ (ap (λ (k : ℕ). cond (k == 0) 0 (cond (k == 5) 1 2)) same ∙ sym (kind_by_number x))
 
 pub effect_kind : (x : Object) (e : End) (now : ℕ) (asked : ObjectCall) → kind_of (Some (object_effect x e now asked).1) ≡ kind_of (Some x)

@@ -17,9 +17,9 @@ use Rattle.ep_law.specs.Laws.{Member, has_instance}
 use Rattle.ep_law.specs.Narrow.{IsRegular, is_chosen, is_number_of, narrowed}
 use Rattle.ep_law.proofs.ListLemmas.{any_same}
 use Rattle.ep_law.proofs.NarrowLemmas.{woken_is_narrowed}
-use Rattle.ep_view.specs.KernelView.{KernelWatch, any_within, carries, climbed, climbing, kernel_watches, reached_now, reached_within, ready_now, resting, shows, watches_instance}
+use Rattle.ep_view.specs.KernelView.{KernelWatch, any_within, carries, climbed, climbing, reached_now, reached_within, ready_now, resting, shows, watches_instance}
 use Rattle.ep_view.specs.Marking.{above_now, choice_at, finds_now, guarded_now, guards, has_number, is_awaited_by, is_candidate, keeps_passing, lets_up, narrowed_now, passing_if}
-use Rattle.ep_view.proofs.ClimbLemmas.{any_map, asked_when, passes, reaching_is, zero_asked}
+use Rattle.ep_view.proofs.ClimbLemmas.{any_map, asked_when, passes, reaching_is}
 use Rattle.ep_view.proofs.FreshLemmas.{asked_either, has_either}
 
 -- Marks by tests that agree at each instance at which somebody waits.

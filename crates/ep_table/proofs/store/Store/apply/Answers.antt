@@ -12,6 +12,7 @@ use Rattle.ep_table.specs.Value.{refusals_at, unwrapped, waiting_at}
 use Rattle.ep_table.proofs.ApplyLemmas.{objects_same}
 use Rattle.ep_table.proofs.ByNumberLemmas.{content_there}
 use Rattle.ep_table.proofs.OwnersLemmas.{owners_kept}
+use Rattle.ep_table.proofs.QuietLemmas.{quiet_kept, quiet_left}
 use Rattle.ep_table.proofs.TakingLemmas.{long_is_last, name_left, taking_kept}
 use Rattle.ep_machine.specs.Objects.{name_in}
 use Rattle.ep_table.specs.Stored.{object_in, object_number_in, objects}
@@ -45,6 +46,9 @@ invariant_of-self g c =
       taken = subst (λ (xs : List (Option Object)). Taking k.taken xs) (sym (objects_same k.descriptions.slots k.objects.slots k.made at s is c.self.invariant.objects y))
           (taking_kept k.taken (objects k.objects.slots k.made) c.self.invariant.taken s.number s.object (content_there object_number_in object_in k.objects.slots k.made c.self.invariant.objects at s is) y (named g c));
       owners = owners_kept k.taken k.taken k.objects.slots c.self.invariant.owners at s is (record s { object = y }) (named g c);
+      quiet =
+          let left = quiet_left c.apply.result s.object y c.index-description.result.now.end c.args.now c.args.call.now c.apply.ensures.ok c.apply.ensures.err (c.self.invariant.quiet at s is) in
+          quiet_kept k.objects.slots c.self.invariant.quiet at s is (record s { object = y }) left;
     }
 
 pub returns-clause-answer : goal.returns-clause-answer

@@ -10,6 +10,7 @@ use Rattle.ep_table.proofs.ApplyLemmas.{backed_same, effect_is, numbered_same, o
 use Rattle.ep_table.proofs.ByNumberLemmas.{content_there}
 use Rattle.ep_table.proofs.OwnersLemmas.{owners_named}
 use Rattle.ep_table.proofs.ProcessesLemmas.{on_err}
+use Rattle.ep_table.proofs.QuietLemmas.{called_quiet, quiet_kept}
 use Rattle.ep_table.proofs.StoreLemmas.{object_found, object_there, side_is}
 use Rattle.ep_table.proofs.TakingLemmas.{gained_is_free, more_held, named_is_last, none_gained, taking_called}
 use Rattle.ep_table.specs.Stored.{IsStore, object_in, object_number_in, objects}
@@ -73,6 +74,10 @@ invariant_of-self-2 g c =
       fewer = c.self.invariant.fewer;
       taken = subst (λ (xs : List (Option Object)). Taking c.take_gained.new.taken xs) (sym (objects_same k.descriptions.slots k.objects.slots k.made at s is c.self.invariant.objects y)) (taking_after g c);
       owners = owners_named k.taken c.take_gained.new.taken k.objects.slots c.self.invariant.owners at s is (record s { object = y }) c.gains.result (gained g c) c.in_ok-take_gained.ensures.ok;
+      quiet =
+          let e = c.index-description.result.now.end in
+          let left = called_quiet s.object y e 0 c.args.call.now c.apply_naming.result.0 c.apply_naming.result.1 (c.apply_naming.ensures e 0) (c.self.invariant.quiet at s is) in
+          quiet_kept k.objects.slots c.self.invariant.quiet at s is (record s { object = y }) left;
     }
 
 effect : (g : Over) (c : goal.After-self-2-1 g) (now : ℕ) → (c.apply_naming.result.0, c.apply_naming.new.self, c.apply_naming.result.1) ≡ effect_at (files_in c.args.self.now) (thing_number c.args.self.now c.args.key) now c.args.call.now

@@ -1,4 +1,4 @@
-use Rattle.std.proofs.Common.{ap, get_or, sym, None, Option, Some, true, ◌∙◌, ◌≡◌}
+use Rattle.std.proofs.Common.{ap, sym, Option, Some, true, ◌∙◌, ◌≡◌}
 use Rattle.std.specs.List.{list_any}
 use Rattle.ep_machine.specs.Objects.{has_name, listens_at}
 use Rattle.ep_names.specs.Names.{owner_of}

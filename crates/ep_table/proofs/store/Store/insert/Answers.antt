@@ -4,6 +4,7 @@ use Rattle.std.proofs.Common.{count_by, is_some}
 use Rattle.ep_base.specs.declared.object.End.TheVariants.{First}
 use Rattle.ep_machine.specs.Objects.{Object}
 use Rattle.ep_table.proofs.OwnersLemmas.{owners_more}
+use Rattle.ep_table.proofs.QuietLemmas.{quiet_more}
 use Rattle.ep_table.proofs.TakingLemmas.{taking_push}
 use Rattle.ep_table.specs.Taking.{Taking}
 use Rattle.ep_table.specs.Stored.{counts, holds_in, names_in, objects, AllKeyed, key_number, queued, number_in, object_in, object_number_in, place_in, places}
@@ -12,7 +13,7 @@ use Rattle.ep_table.specs.declared.words.Description.{Description}
 use Rattle.ep_table.specs.declared.words.Dying.{Dying}
 use Rattle.ep_table.specs.declared.words.Shared.{Shared}
 use Rattle.ep_table.proofs.QueueLemmas.{keyed_more}
-use Rattle.ep_table.proofs.InsertLemmas.{fewer_one, keys_more, objects_one, queue_one, Inserted, counted_more, holds_of, holds_one, inserted, inserts_one, places_one}
+use Rattle.ep_table.proofs.InsertLemmas.{fewer_one, keys_more, objects_one, queue_one, Inserted, counted_more, holds_of, holds_one, inserted, inserts_one, places_one, roomier}
 use Rattle.ep_table.proofs.ByNumberLemmas.{contents_length}
 use Rattle.ep_table.proofs.store.Store.insert.Given.{Over}
 use Rattle.ep_table.proofs.store.Store.insert.Goals as goal
@@ -32,6 +33,10 @@ shared g c =
     let i = inserted c.self.inside.objects.slots c.reserve.new.objects c.insert_reserved.new.self c.insert_reserved.result s c.reserve.ensures.objects c.insert_reserved.ensures.was_vacant c.insert_reserved.ensures.updates in
     let e : c.insert_reserved.result ≡ c.vacant_key-at.result = c.insert_reserved.ensures.key ∙ sym c.vacant_key-at.ensures.value in
     subst (λ (at : ℕ). Inserted c.self.inside.objects.slots c.insert_reserved.new.self.slots at s) e i
+
+-- no memory: nothing has changed
+pub invariant_of-self : goal.invariant_of-self
+invariant_of-self g c = let r = c.reserve in roomier c.self.inside c.self.invariant r.new.descriptions r.new.objects r.new.dying r.ensures.descriptions r.ensures.objects r.ensures.dying r.ensures.grown
 
 pub invariant_of-self-2 : goal.invariant_of-self-2
 invariant_of-self-2 g c =
@@ -54,6 +59,7 @@ invariant_of-self-2 g c =
       fewer = fewer_one k.descriptions.slots c.insert_reserved-key.new.self.slots k.objects.slots c.insert_reserved.new.self.slots k.described k.made c.insert_reserved-key.result c.vacant_key-at.result c.args.object a b h k.named c.self.invariant.fewer;
       taken = subst (λ (xs : List (Option Object)). Taking k.taken xs) (sym (objects_one k.descriptions.slots c.insert_reserved-key.new.self.slots k.objects.slots c.insert_reserved.new.self.slots k.described k.made c.insert_reserved-key.result c.vacant_key-at.result c.args.object a b h)) (taking_push k.taken (objects k.objects.slots k.made) c.self.invariant.taken c.args.object c.requires);
       owners = owners_more k.taken k.objects.slots c.insert_reserved.new.self.slots c.vacant_key-at.result _ (shared g c) c.self.invariant.owners;
+      quiet = quiet_more k.objects.slots c.insert_reserved.new.self.slots c.vacant_key-at.result _ (shared g c) c.is_quiet.ensures c.self.invariant.quiet;
     }
 
 pub returns-clause-ok : goal.returns-clause-ok

@@ -9,9 +9,10 @@ use Rattle.ep_table.specs.declared.words.Shared.{Shared}
 use Rattle.ep_table.proofs.QueueLemmas.{keyed_more}
 use Rattle.ep_machine.specs.Objects.{Object}
 use Rattle.ep_table.proofs.OwnersLemmas.{owners_more}
+use Rattle.ep_table.proofs.QuietLemmas.{quiet_more}
 use Rattle.ep_table.proofs.TakingLemmas.{taking_push}
 use Rattle.ep_table.specs.Taking.{Taking}
-use Rattle.ep_table.proofs.InsertLemmas.{objects_two, fewer_two, keys_more, queue_two, Inserted, counted_two, holds_of, holds_two, inserted, inserts_two}
+use Rattle.ep_table.proofs.InsertLemmas.{objects_two, fewer_two, keys_more, queue_two, Inserted, counted_two, holds_of, holds_two, inserted, inserts_two, roomier}
 use Rattle.ep_table.proofs.ByNumberLemmas.{contents_length}
 use Rattle.ep_table.proofs.store.Store.insert_two.Given.{Over}
 use Rattle.ep_table.proofs.store.Store.insert_two.Goals as goal
@@ -38,6 +39,10 @@ shared_in g c =
     let e : c.insert_reserved.result ≡ c.vacant_key-at.result = c.insert_reserved.ensures.key ∙ sym c.vacant_key-at.ensures.value in
     subst (λ (at : ℕ). Inserted c.self.inside.objects.slots c.insert_reserved.new.self.slots at s) e i
 
+-- no memory: nothing has changed
+pub invariant_of-self : goal.invariant_of-self
+invariant_of-self g c = let r = c.reserve in roomier c.self.inside c.self.invariant r.new.descriptions r.new.objects r.new.dying r.ensures.descriptions r.ensures.objects r.ensures.dying r.ensures.grown
+
 pub invariant_of-self-2 : goal.invariant_of-self-2
 invariant_of-self-2 g c =
     let k = c.self.inside in
@@ -58,6 +63,7 @@ invariant_of-self-2 g c =
       fewer = fewer_two k.descriptions.slots c.insert_reserved-first.new.self.slots c.insert_reserved-second.new.self.slots k.objects.slots c.insert_reserved.new.self.slots k.described k.made c.insert_reserved-first.result c.insert_reserved-second.result c.vacant_key-at.result c.args.object (first_in g c) (second_in g c) (shared_in g c) h k.named c.self.invariant.fewer;
       taken = subst (λ (xs : List (Option Object)). Taking k.taken xs) (sym (objects_two k.descriptions.slots c.insert_reserved-first.new.self.slots c.insert_reserved-second.new.self.slots k.objects.slots c.insert_reserved.new.self.slots k.described k.made c.insert_reserved-first.result c.insert_reserved-second.result c.vacant_key-at.result c.args.object (first_in g c) (second_in g c) (shared_in g c) h)) (taking_push k.taken (objects k.objects.slots k.made) c.self.invariant.taken c.args.object c.requires);
       owners = owners_more k.taken k.objects.slots c.insert_reserved.new.self.slots c.vacant_key-at.result _ (shared_in g c) c.self.invariant.owners;
+      quiet = quiet_more k.objects.slots c.insert_reserved.new.self.slots c.vacant_key-at.result _ (shared_in g c) c.is_quiet.ensures c.self.invariant.quiet;
     }
 
 pub returns-clause-ok : goal.returns-clause-ok

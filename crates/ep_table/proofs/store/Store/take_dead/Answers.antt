@@ -2,7 +2,7 @@ use Rattle.std.proofs.Common.{[], ◌++◌, ◌∷◌, None, IsSome, List, Optio
 use Rattle.ep_machine.specs.Lists.{numbered}
 use Rattle.ep_table.specs.ByNumber.{NumberedBy}
 use Rattle.ep_table.specs.Closing.{closed_slot}
-use Rattle.ep_table.specs.Stored.{AllBacked, AllFewer, AllKeyed, AllOwned, counts, holds_in, key_number, names_in, number_in, object_in, object_number_in, objects, places, queued, things}
+use Rattle.ep_table.specs.Stored.{AllBacked, AllFewer, AllKeyed, AllOwned, AllQuiet, counts, holds_in, key_number, names_in, number_in, object_in, object_number_in, objects, places, queued, things}
 use Rattle.ep_table.specs.Value.{Queue, number_at}
 use Rattle.ep_table.specs.declared.store.Store.TheInside.{Inside}
 use Rattle.ep_table.specs.declared.words.Dying.{Dying}
@@ -16,6 +16,7 @@ use Rattle.ep_table.proofs.TakingLemmas.{less_held, taking_closed}
 use Rattle.ep_table.specs.Taking.{AreOwners, Taking, freed_slot}
 use Rattle.ep_table.proofs.DieLemmas.{dies, fewer_left, keyed_left, queue_left}
 use Rattle.ep_table.proofs.QueueLemmas.{keyed_last}
+use Rattle.ep_table.proofs.QuietLemmas.{quiet_closed}
 use Rattle.ep_table.proofs.SoundLemmas.{there}
 use Rattle.ep_table.proofs.StoreLemmas.{key_at, object_there}
 use Rattle.ep_table.proofs.store.Store.take_dead.Goals as goal
@@ -75,6 +76,9 @@ invariant_of-self-2 g c =
           let b = i.backed last.key.0 d is in
           subst (λ (xs : List (Option Shared)). AreOwners c.free_name.new.taken xs) (sym g)
           (owners_closed k.taken c.free_name.new.taken os i.owners d.object b.it b.is d.end c.close-other.result.2 (c.close-other.ensures.name ∙ ap (λ (o : Option Shared). freed_slot o d.end) b.is) c.free_name.ensures);
+      quiet =
+          let b = i.backed last.key.0 d is in
+          subst (λ (xs : List (Option Shared)). AllQuiet xs) (sym g) (quiet_closed os i.quiet d.object b.it b.is d.end);
     }
 
 pub returns-clause-some : goal.returns-clause-some

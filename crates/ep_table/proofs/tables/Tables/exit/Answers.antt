@@ -9,6 +9,7 @@ use Rattle.ep_table.proofs.ViewLemmas.{lists_at}
 use Rattle.ep_machine.specs.Tables.{exit}
 use Rattle.ep_table.proofs.UnnameLemmas.{fits_ended, lives_before, names_within, table_live, tables_ended}
 use Rattle.ep_table.proofs.TableLemmas.{exit_same}
+use Rattle.ep_table.proofs.QuietLemmas.{none_let_go}
 use Rattle.ep_table.proofs.tables.Tables.exit.Goals as goal
 
 pub drop_names-requires-clause-live : goal.drop_names-requires-clause-live
@@ -41,8 +42,8 @@ invariant_of-self g c =
     let f = fits_ended c.self.inside c.self.invariant c.args.pid.0 t is c.drop_names.new.store l (lists c.end.new.processes.items) c.end.ensures in
     record { live = f.live; counts = f.counts; living = f.living }
 
-pub returns-in-Some : goal.returns-in-Some
-returns-in-Some g c =
+pub returns-in-Some-clause-files : goal.returns-in-Some-clause-files
+returns-in-Some-clause-files g c =
     let at : Some c.in-Some.table.now ≡ get_or c.self.inside.processes.items c.args.pid.0 None = sym (ap option_copied c.in-Some.is) ∙ (c.table_at.ensures ∙ ap (λ xs. get_or xs c.args.pid.0 None) c.deref.ensures.value) in
     let is : Some c.deref-in-Some.result.now ≡ get_or (lists c.self.inside.processes.items) c.args.pid.0 None = ap (λ (t : List (Option Descriptor)). Some t) c.deref-in-Some.ensures.value ∙ (ap items_of at ∙ sym (lists_at c.self.inside.processes.items c.args.pid.0)) in
     let k = c.self.inside in
@@ -54,7 +55,13 @@ returns-in-Some g c =
     (λ i. record { limits = k.limits; files = record { tables = e i; descriptions = (q i).descriptions; objects = (q i).objects }; keys = (q i).keys; holds = (q i).holds; dying = s.dying })
     ∙ ap (λ (w : Seen). record w { files = exit w.files c.args.pid.0; dying = s.dying }) c.self.view_is
 
-pub returns-in_default : goal.returns-in_default
-returns-in_default g c =
+pub returns-in_default-clause-files : goal.returns-in_default-clause-files
+returns-in_default-clause-files g c =
     let e = there_is c.self.inside c.args.self.now c.args.pid.0 c.table_at.result c.self.view_is (c.table_at.ensures ∙ ap (λ xs. get_or xs c.args.pid.0 None) c.deref.ensures.value) in
     absurd (false≢true (sym (ap is_some c.in_default.is) ∙ (e ∙ c.requires)))
+
+pub returns-in-Some-clause-quiet : goal.returns-in-Some-clause-quiet
+returns-in-Some-clause-quiet g c = none_let_go (exit c.args.self.now.files c.args.pid.0) c.known.ensures.quiet
+
+pub returns-in_default-clause-quiet : goal.returns-in_default-clause-quiet
+returns-in_default-clause-quiet g c = none_let_go (exit c.args.self.now.files c.args.pid.0) c.known.ensures.quiet
