@@ -1,10 +1,11 @@
 -- Connections, worked out on the files that a run leaves, and by lists of records that are runs but for one clause: a
 -- connect to a listener is refused.
-use Rattle.std.specs.Prelude.{Bool, List, None, Option, Some, [], false, if◌then◌else◌, is_some, pos, unwrap_or, ℕ, ◌∷◌}
+use Rattle.std.specs.Prelude.{Bool, List, None, Option, Some, [], false, if◌then◌else◌, is_some, pos, unwrap_or, ℕ, ◌&&◌, ◌∷◌}
 use Rattle.ep_base.specs.Limits.{default_limits}
 use Rattle.ep_base.specs.Limits.{Limits}
 use Rattle.ep_base.specs.declared.answer.Answer.{Answer}
 use Rattle.ep_base.specs.declared.answer.Answer.TheVariants.{Bytes, Done, Failed, Num}
+use Rattle.ep_base.specs.declared.call.Call.TheVariants.{Connect}
 use Rattle.ep_base.specs.declared.call.Event.{Event}
 use Rattle.ep_base.specs.declared.call.Event.TheVariants.{Call as CallOf}
 use Rattle.ep_base.specs.declared.errno.Errno.{Errno}
@@ -14,8 +15,8 @@ use Rattle.ep_base.specs.declared.socket.Family.TheVariants as families
 use Rattle.ep_base.specs.declared.socket.Name.{Name}
 use Rattle.ep_base.specs.declared.socket.Space.TheVariants as spaces
 use Rattle.ep_machine.specs.Connections.{accept, first_waiting, join, pending_in, without_abandoned}
-use Rattle.ep_machine.specs.Files.{Files, content_at, object_of, side_of}
-use Rattle.ep_machine.specs.Objects.{is_heard, object_present, plain}
+use Rattle.ep_machine.specs.Files.{Files, content_at, object_of, object_under, side_of}
+use Rattle.ep_machine.specs.Objects.{is_heard, is_idle, object_present, plain}
 use Rattle.ep_machine.specs.Run.{checked, run}
 use Rattle.ep_machine.specs.State.{State, opening}
 use Rattle.ep_machine.specs.Step.{change, next_event, settled, step}
@@ -56,15 +57,15 @@ deserted = without_abandoned (close connected.0 1 (pos 3))
 abbrev pub shown : Files → ℕ → ℕ
 shown s d = object_present (unwrap_or (object_of s d) plain) (side_of s d) 0
 
--- Without the clause that refuses it, a connect that is heard is made.
-abbrev pub is_heard_in : State → Event → Bool
-is_heard_in s (CallOf p call) = is_heard s.files.objects call
-is_heard_in s event = false
+-- Without the clause that refuses it, a connect of an idle socket that is heard is made.
+abbrev pub gets_through : State → Event → Bool
+gets_through s (CallOf p (Connect fd name)) = is_idle (object_under s.files p.0 fd.0) && is_heard s.files.objects (Connect fd name)
+gets_through s event = false
 
 abbrev pub step_through : Limits → State → ℕ → Event → List ℕ → Option (Answer × State)
 step_through limits s caller event picked =
     let now = next_event s in
-    if is_heard_in s event then settled now (change limits now caller event picked) else step limits s caller event picked
+    if gets_through s event then settled now (change limits now caller event picked) else step limits s caller event picked
 
 abbrev pub goes_through : Limits → Option State → List Record → Bool
 goes_through limits o [] = is_some o
