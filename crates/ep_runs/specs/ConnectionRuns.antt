@@ -9,7 +9,7 @@ use Rattle.ep_base.specs.declared.call.Call.TheVariants.{Connect}
 use Rattle.ep_base.specs.declared.call.Event.{Event}
 use Rattle.ep_base.specs.declared.call.Event.TheVariants.{Call as CallOf}
 use Rattle.ep_base.specs.declared.errno.Errno.{Errno}
-use Rattle.ep_base.specs.declared.errno.Errno.TheVariants.{Eaddrinuse, Econnrefused, Econnreset, Epipe}
+use Rattle.ep_base.specs.declared.errno.Errno.TheVariants.{Eaddrinuse, Econnreset, Epipe}
 use Rattle.ep_base.specs.declared.record.Record.{Record}
 use Rattle.ep_base.specs.declared.socket.Family.TheVariants as families
 use Rattle.ep_base.specs.declared.socket.Name.{Name}
