@@ -1,5 +1,6 @@
 //! What every kernel promises.
-ghost use Rattle.std.specs.Prelude.{◌≡◌, ◌+◌, ◌<◌, ◌≤◌, ◌^◌, ℕ, List, None, OnErr, OnOk, Some, [], drop, false, length, true, vec_capacity, vec_len};
+ghost use Rattle.std.specs.Prelude.{◌≡◌, ◌+◌, ◌<◌, ◌≤◌, ◌^◌, ℕ, List, None, OnErr, OnOk, Some, [], drop};
+ghost use Rattle.std.specs.Prelude.{false, length, true, vec_capacity, vec_len};
 ghost use Rattle.std.specs.Option.{option_map};
 ghost use Rattle.ep_base.specs.Call.{EventHasNoBytes};
 ghost use Rattle.ep_base.specs.Limits.{Limits as Numbers};

@@ -2,7 +2,8 @@
 ghost use Rattle.std.specs.Prelude.{◌≡◌, ◌<◌, [], IsSome, false, take};
 ghost use Rattle.std.specs.List.{list_any};
 ghost use Rattle.ep_choice.specs.Answers.{AreAnswers};
-ghost use Rattle.ep_choice.specs.Choose.{AreCandidates, AreKeys, HasKeys, HaveInstances, IsVain, awaited_key, chosen_number, finds_key, with_candidate};
+ghost use Rattle.ep_choice.specs.Choose.{AreCandidates, AreKeys, HasKeys, HaveInstances, IsVain, awaited_key};
+ghost use Rattle.ep_choice.specs.Choose.{chosen_number, finds_key, with_candidate};
 ghost use Rattle.ep_climb.specs.Reach.{AreRoomy, IsClosed, IsGrown, open_edges};
 ghost use Rattle.ep_interest.specs.Registrations.{number_under as number_of_entry};
 ghost use Rattle.ep_table.specs.Value.{number_under};

@@ -1,6 +1,7 @@
 //! Event counters, as eventfd(2) has them.
 ghost use Rattle.std.specs.Prelude.{◌≡◌, ◌↔◌, ◌<◌, IfSome, IsNone, length};
-ghost use Rattle.ep_machine.specs.Counters.{counter_present, counter_read, counter_read_refusals, counter_write, counter_write_refusals, greatest_count, written};
+ghost use Rattle.ep_machine.specs.Counters.{counter_present, counter_read, counter_read_refusals};
+ghost use Rattle.ep_machine.specs.Counters.{counter_write, counter_write_refusals, greatest_count, written};
 ghost use Rattle.ep_machine.specs.Effect.{attempt};
 
 use crate::outcome::{raised, refused, value_bytes};

@@ -1,5 +1,6 @@
 //! What holds of the definitions, as contracts of functions that do nothing.
-ghost use Rattle.ep_counters.specs.Law.{CounterReadLaw, CounterWriteLaw, NextIsOne, NextIsOver, NextStays, NextTellsAdvance, TimerAdvanceLaw, TimerReadLaw, TimerSettimeLaw};
+ghost use Rattle.ep_counters.specs.Law.{CounterReadLaw, CounterWriteLaw, NextIsOne, NextIsOver, NextStays};
+ghost use Rattle.ep_counters.specs.Law.{NextTellsAdvance, TimerAdvanceLaw, TimerReadLaw, TimerSettimeLaw};
 
 /// A bit that begins to hold is raised: by a read and a write of an eventfd, by a read and a settime of a timer,
 /// and as the clock goes on. This does nothing: its contract is the law, of every eventfd and timer.

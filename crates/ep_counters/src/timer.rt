@@ -2,7 +2,9 @@
 ghost use Rattle.std.specs.Prelude.{◌≡◌, ◌≤◌, None};
 ghost use Rattle.ep_counters.specs.Timer.{IsInRange, IsNextArrival, expiration_after};
 ghost use Rattle.ep_machine.specs.Effect.{attempt};
-ghost use Rattle.ep_machine.specs.Timer.{expirations, new_timer, timer_advance, timer_present, timer_read, timer_read_refusals, timer_set_refusals, timer_settime, timer_setting, unread};
+ghost use Rattle.ep_machine.specs.Timer.{expirations, new_timer, timer_advance, timer_present, timer_read};
+ghost use Rattle.ep_machine.specs.Timer.{timer_read_refusals, timer_set_refusals, timer_settime};
+ghost use Rattle.ep_machine.specs.Timer.{timer_setting, unread};
 
 use crate::outcome::{raised, refused, value_bytes};
 use ep_base::{Answer, Errno, LAST_MOMENT, Mask, Moment, Raised, Span};

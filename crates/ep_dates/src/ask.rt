@@ -1,7 +1,8 @@
 //! Asking registrations whether they have come to be reportable, or are so no more.
 ghost use Rattle.std.specs.Prelude.{◌≡◌, ◌<◌, ◌≤◌, ◌==◌, ℕ, [], Bool, IsSome, drop, false, length, take, true};
 ghost use Rattle.ep_calls.specs.Climb.{is_nested_key};
-ghost use Rattle.ep_dates.specs.Ask.{AreHomes, AreInstances, AreSettled, AreTurned, AreWatched, Asks, IsOnTurned, shows_by, shows_over, shows_ready, watches};
+ghost use Rattle.ep_dates.specs.Ask.{AreHomes, AreInstances, AreSettled, AreTurned, AreWatched, Asks};
+ghost use Rattle.ep_dates.specs.Ask.{IsOnTurned, shows_by, shows_over, shows_ready, watches};
 ghost use Rattle.ep_dates.specs.Dates.{is_ready};
 ghost use Rattle.ep_dates.specs.Kept.{AreKept};
 ghost use Rattle.ep_interest.specs.Passes.{has_id};

@@ -1,7 +1,9 @@
 //! An answer from its object.
 ghost use Rattle.std.specs.Prelude.{◌≡◌, IfOk, option_map};
 ghost use Rattle.serde_json.specs.View.{view};
-ghost use Rattle.ep_history.specs.Answers.{affirmed, answer_of, answers, bytes_answer, err_answer, errno_in, errnos, events_answer, failed_answer, name_answer, name_of, numbered, other_answers, report_of, time_answer, two_answer};
+ghost use Rattle.ep_history.specs.Answers.{affirmed, answer_of, answers, bytes_answer, err_answer, errno_in};
+ghost use Rattle.ep_history.specs.Answers.{errnos, events_answer, failed_answer, name_answer, name_of};
+ghost use Rattle.ep_history.specs.Answers.{numbered, other_answers, report_of, time_answer, two_answer};
 ghost use Rattle.ep_history.specs.Fields.{each_of, named};
 
 use crate::bytes::hex_bytes;

@@ -1,7 +1,10 @@
 //! A call from its object.
 ghost use Rattle.std.specs.Prelude.{◌≡◌, IfOk, option_map};
 ghost use Rattle.serde_json.specs.View.{view};
-ghost use Rattle.ep_history.specs.Calls.{call_of, close_call, ctl_call, dup2_call, dup_call, epoll_call, eventfd_call, gettime_call, other_operations, operations, pipe_call, plain_call, read_call, settime_call, socketpair_call, timerfd_call, wait_call, write_call};
+ghost use Rattle.ep_history.specs.Calls.{call_of, close_call, ctl_call, dup2_call, dup_call, epoll_call};
+ghost use Rattle.ep_history.specs.Calls.{eventfd_call, gettime_call, other_operations, operations, pipe_call};
+ghost use Rattle.ep_history.specs.Calls.{plain_call, read_call, settime_call, socketpair_call, timerfd_call};
+ghost use Rattle.ep_history.specs.Calls.{wait_call, write_call};
 ghost use Rattle.ep_history.specs.Calls.{call_data, of_shutdown};
 ghost use Rattle.ep_history.specs.Fields.{named, size};
 

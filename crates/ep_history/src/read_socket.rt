@@ -2,7 +2,9 @@
 ghost use Rattle.std.specs.Prelude.{◌≡◌, codes};
 ghost use Rattle.serde_json.specs.Find.{get};
 ghost use Rattle.serde_json.specs.View.{view};
-ghost use Rattle.ep_history.specs.Calls.{accept_call, bind_call, connect_call, how_under, listen_call, peek_call, peername_call, shutdown_call, sockerr_call, socket_call, socket_operations, sockname_call};
+ghost use Rattle.ep_history.specs.Calls.{accept_call, bind_call, connect_call, how_under, listen_call};
+ghost use Rattle.ep_history.specs.Calls.{peek_call, peername_call, shutdown_call, sockerr_call, socket_call};
+ghost use Rattle.ep_history.specs.Calls.{socket_operations, sockname_call};
 ghost use Rattle.ep_history.specs.Fields.{named, required};
 ghost use Rattle.ep_history.specs.Sockets.{family_value, space_value};
 

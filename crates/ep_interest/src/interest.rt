@@ -1,5 +1,8 @@
 //! All interest sets together.
-ghost use Rattle.std.specs.Prelude.{nat_eq, nat_lt, not, vec_capacity, ◌<◌, ◌≤◌, ◌≡◌, ◌&&◌, ◌+◌, [], ◌∷◌, ◌++◌, false, IfOk, IfNone, IfSome, OnErr, IsSome, Some, is_some, All, filter, length, map, slice_index_or, slice_set, None, option_copied, unwrap_or};
+ghost use Rattle.std.specs.Prelude.{nat_eq, nat_lt, not, vec_capacity, ◌<◌, ◌≤◌, ◌≡◌, ◌&&◌, ◌+◌, [], ◌∷◌};
+ghost use Rattle.std.specs.Prelude.{◌++◌, false, IfOk, IfNone, IfSome, OnErr, IsSome, Some, is_some, All};
+ghost use Rattle.std.specs.Prelude.{filter, length, map, slice_index_or, slice_set, None, option_copied};
+ghost use Rattle.std.specs.Prelude.{unwrap_or};
 ghost use Rattle.std.specs.Map.Iter.{ShowsInOrder};
 ghost use Rattle.std.specs.Option.{option_map};
 ghost use Rattle.ep_base.specs.declared.ids.EntryId.{EntryId};
@@ -7,7 +10,10 @@ ghost use Rattle.ep_interest.specs.Exclusive.{exclusive_of, is_exclusive as excl
 ghost use Rattle.ep_interest.specs.InTurn.{AllHeld, changed_at};
 ghost use Rattle.ep_interest.specs.Listed.{shown};
 ghost use Rattle.std.specs.List.{IsDistinct, find as first_where, list_any};
-ghost use Rattle.ep_interest.specs.Registrations.{GainsKey, IsSound, Touches, is_apart_from, left_number, entry_under, has_key, id_of, ids, is_of, is_on, is_other, lets_in, modified, entry_of, number_under, numbered, freshened_on, raised_on, reported, settled, with_ids};
+ghost use Rattle.ep_interest.specs.Registrations.{GainsKey, IsSound, Touches, is_apart_from, left_number};
+ghost use Rattle.ep_interest.specs.Registrations.{entry_under, has_key, id_of, ids, is_of, is_on, is_other};
+ghost use Rattle.ep_interest.specs.Registrations.{lets_in, modified, entry_of, number_under, numbered};
+ghost use Rattle.ep_interest.specs.Registrations.{freshened_on, raised_on, reported, settled, with_ids};
 ghost use Rattle.ep_interest.specs.Passes.{ArePassing, has_id, key_numbers, passes_on};
 ghost use Rattle.ep_machine.specs.Bits.{ONESHOT, asked, has_bit};
 ghost use Rattle.ep_machine.specs.Counts.{brings};

@@ -1,6 +1,7 @@
 //! Which registrations pass something on.
 ghost use Rattle.std.specs.List.{IsDistinct, swap_remove};
-ghost use Rattle.std.specs.Prelude.{◌≡◌, ◌<◌, ◌≤◌, ◌++◌, ◌∷◌, ℕ, [], IfSome, OnOk, Some, false, if◌then◌else◌, nat_eq, slice_get, slice_index_or, vec_capacity, vec_len};
+ghost use Rattle.std.specs.Prelude.{◌≡◌, ◌<◌, ◌≤◌, ◌++◌, ◌∷◌, ℕ, [], IfSome, OnOk, Some, false};
+ghost use Rattle.std.specs.Prelude.{if◌then◌else◌, nat_eq, slice_get, slice_index_or, vec_capacity, vec_len};
 ghost use Rattle.ep_interest.specs.Passes.{has_id, key_numbers};
 
 use ep_base::EntryId;

@@ -1,5 +1,6 @@
 //! The registrations of each owner.
-ghost use Rattle.std.specs.Prelude.{◌≡◌, ◌≢◌, ◌<◌, ◌≤◌, ◌++◌, ◌∷◌, ℕ, [], All, Contains, OnErr, OnOk, filter, if◌then◌else◌, length, map, nat_eq, not, ◌==◌};
+ghost use Rattle.std.specs.Prelude.{◌≡◌, ◌≢◌, ◌<◌, ◌≤◌, ◌++◌, ◌∷◌, ℕ, [], All, Contains, OnErr, OnOk, filter};
+ghost use Rattle.std.specs.Prelude.{if◌then◌else◌, length, map, nat_eq, not, ◌==◌};
 ghost use Rattle.ep_interest.specs.Rows.{IsRows, row};
 ghost use Rattle.ep_rings.specs.KeyWalk.{entry_id};
 

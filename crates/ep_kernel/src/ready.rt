@@ -1,5 +1,6 @@
 //! The kernel with ready lists.
-ghost use Rattle.std.specs.Prelude.{◌≡◌, ◌<◌, ◌≤◌, [], All, IfOk, IsOk, MatchOption, None, OnErr, false, length, true, vec_capacity, vec_len, ℕ};
+ghost use Rattle.std.specs.Prelude.{◌≡◌, ◌<◌, ◌≤◌, [], All, IfOk, IsOk, MatchOption, None, OnErr, false};
+ghost use Rattle.std.specs.Prelude.{length, true, vec_capacity, vec_len, ℕ};
 ghost use Rattle.ep_base.specs.Call.{EventHasNoBytes};
 ghost use Rattle.ep_base.specs.declared.errno.Errno.TheVariants.{Einval};
 ghost use Rattle.ep_calls.specs.Acts.{Acts, Adds, ComesLast, IsUnrefused, is_no_memory};

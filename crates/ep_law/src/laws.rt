@@ -1,6 +1,9 @@
 //! Each law is the contract of a function that does nothing, so that it is proved.
 ghost use Rattle.ep_law.specs.Narrow.{ChangesAreRegular, RunsAreRegular, WokenIsNarrowed};
-ghost use Rattle.ep_law.specs.Laws.{BeginningsAreSpread, DeathsInAnyOrder, Determined, EachSound, EndsAreApart, ExclusiveTargets, FairRounds, GraphStaysLegal, NamedLives, ReadyEquation, ReadyMarked, RefusalChangesNothing, ReportablesAreSpread, SpreadEquation, SpreadLeast, UnguardedSpread, WokenMarked};
+ghost use Rattle.ep_law.specs.Laws.{BeginningsAreSpread, DeathsInAnyOrder, Determined, EachSound};
+ghost use Rattle.ep_law.specs.Laws.{EndsAreApart, ExclusiveTargets, FairRounds, GraphStaysLegal, NamedLives};
+ghost use Rattle.ep_law.specs.Laws.{ReadyEquation, ReadyMarked, RefusalChangesNothing, ReportablesAreSpread};
+ghost use Rattle.ep_law.specs.Laws.{SpreadEquation, SpreadLeast, UnguardedSpread, WokenMarked};
 
 /// An instance is ready exactly where one of its registrations is reportable: five levels are enough
 /// where the graph of instances is legal.

@@ -1,5 +1,6 @@
 //! The taken numbers of one space with their owners, the lowest free one at hand.
-ghost use Rattle.std.specs.Prelude.{◌≡◌, ◌≤◌, ◌<◌, ◌==◌, ℕ, IfNone, IfSome, None, MatchOption, OnErr, OnOk, Some, [], false, if◌then◌else◌, length, true};
+ghost use Rattle.std.specs.Prelude.{◌≡◌, ◌≤◌, ◌<◌, ◌==◌, ℕ, IfNone, IfSome, None, MatchOption, OnErr, OnOk};
+ghost use Rattle.std.specs.Prelude.{Some, [], false, if◌then◌else◌, length, true};
 ghost use Rattle.ep_names.specs.Numbers.{AreMarked, AreSound, AreTaken, IsInBlock, IsLowest, block_end, is_marked, is_taken, owner_at};
 
 use crate::blocks::{

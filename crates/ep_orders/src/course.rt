@@ -1,5 +1,6 @@
 //! One order, as it is made.
-ghost use Rattle.std.specs.Prelude.{◌≡◌, ◌+◌, ◌++◌, ◌≤◌, ◌∷◌, [], IfOk, List, OnOk, false, filter, if◌then◌else◌, option_map, slice_get, slice_index, true, vec_len};
+ghost use Rattle.std.specs.Prelude.{◌≡◌, ◌+◌, ◌++◌, ◌≤◌, ◌∷◌, [], IfOk, List, OnOk, false, filter};
+ghost use Rattle.std.specs.Prelude.{if◌then◌else◌, option_map, slice_get, slice_index, true, vec_len};
 ghost use Rattle.ep_base.specs.declared.record.Record.{Record as Entry};
 ghost use Rattle.ep_calls.specs.Acts.{is_no_memory};
 ghost use Rattle.ep_calls.specs.Driver.{TellsNext};

@@ -1,6 +1,7 @@
 //! The moments that parked callers wait for, the earliest at hand.
 ghost use Rattle.std.specs.Prelude.{◌≡◌, IsSome, MatchOption, None, OnOk, Some, ℕ};
-ghost use Rattle.ep_park.specs.Deadlines.{HasNoMoment, HasNoneReached, HasRoom, IsEarliest, IsReachedAt, SameMoments, SetsMoment, moment_of};
+ghost use Rattle.ep_park.specs.Deadlines.{HasNoMoment, HasNoneReached, HasRoom, IsEarliest, IsReachedAt};
+ghost use Rattle.ep_park.specs.Deadlines.{SameMoments, SetsMoment, moment_of};
 
 use ep_base::{CallerId, Moment};
 use ep_due::DueMap;

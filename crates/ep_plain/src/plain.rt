@@ -1,5 +1,6 @@
 //! The kernel that scans.
-ghost use Rattle.std.specs.Prelude.{◌≡◌, ◌<◌, ◌≤◌, ◌++◌, ◌∷◌, [], List, IfOk, IfSome, IsOk, None, OnErr, false, is_some, length, option_copied, true, vec_capacity, vec_len};
+ghost use Rattle.std.specs.Prelude.{◌≡◌, ◌<◌, ◌≤◌, ◌++◌, ◌∷◌, [], List, IfOk, IfSome, IsOk, None, OnErr};
+ghost use Rattle.std.specs.Prelude.{false, is_some, length, option_copied, true, vec_capacity, vec_len};
 ghost use Rattle.ep_base.specs.Call.{EventHasNoBytes};
 ghost use Rattle.ep_base.specs.declared.record.Record.{Record as Recorded};
 ghost use Rattle.ep_calls.specs.Acts.{Adds, ComesLast, IsUnrefused, is_no_memory};

@@ -1,7 +1,9 @@
 //! The words of the command line.
 ghost use Rattle.std.specs.Prelude.{◌≡◌, ◌↔◌, IfOk, IsTrue, codes, false, map, option_map, string_bytes};
 ghost use Rattle.clap.specs.Words.{FailsBy, app_of, fault_of, first_of, found_of, rows_of, rule_of};
-ghost use Rattle.ep_program.specs.Options.{IsGiven, StandsIn, bound_rule, clock_rule, explain_rule, history_rule, limits_rule, most_rule, orders_rule, plain_rule, program, rows_in, script_rule, strict_rule, write_rule};
+ghost use Rattle.ep_program.specs.Options.{IsGiven, StandsIn, bound_rule, clock_rule, explain_rule};
+ghost use Rattle.ep_program.specs.Options.{history_rule, limits_rule, most_rule, orders_rule, plain_rule};
+ghost use Rattle.ep_program.specs.Options.{program, rows_in, script_rule, strict_rule, write_rule};
 
 use clap::parser::ValueSource;
 use clap::{Arg, ArgAction, ArgMatches, Command, Error};

@@ -2,7 +2,9 @@
 ghost use Rattle.std.specs.Prelude.{◌≡◌, ◌≤◌, ℕ, None, IsSome, is_some, OnOk, OnErr, length};
 ghost use Rattle.std.specs.Map.Iter.{ShowsInOrder};
 ghost use Rattle.ep_base.specs.declared.ids.EntryId.{EntryId};
-ghost use Rattle.ep_ready.specs.ReadyLists.{GainsPlace, IsSound, LosesPlace, Same, after_push, after_removal, after_rotation, empty, front_of, ids, instance_at, list_at, stands};
+ghost use Rattle.ep_ready.specs.ReadyLists.{GainsPlace, IsSound, LosesPlace, Same, after_push, after_removal};
+ghost use Rattle.ep_ready.specs.ReadyLists.{after_rotation, empty, front_of, ids, instance_at, list_at};
+ghost use Rattle.ep_ready.specs.ReadyLists.{stands};
 ghost use Rattle.ep_ready.specs.Tied.{place_at};
 
 use ep_base::{DescId, EntryId};

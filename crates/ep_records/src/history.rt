@@ -1,5 +1,6 @@
 //! The history of a kernel.
-ghost use Rattle.std.specs.Prelude.{◌≡◌, ◌↔◌, ◌+◌, ◌-◌, ◌<◌, ◌≤◌, [], ◌∷◌, ◌++◌, ◌^◌, IfOk, IsFalse, IsOk, IsTrue, List, OnOk, Some, drop, length, slice_get};
+ghost use Rattle.std.specs.Prelude.{◌≡◌, ◌↔◌, ◌+◌, ◌-◌, ◌<◌, ◌≤◌, [], ◌∷◌, ◌++◌, ◌^◌, IfOk, IsFalse, IsOk};
+ghost use Rattle.std.specs.Prelude.{IsTrue, List, OnOk, Some, drop, length, slice_get};
 ghost use Rattle.ep_base.specs.declared.record.Record.{Record as Whole};
 ghost use Rattle.ep_records.specs.Past.{numbered, whole};
 ghost use Rattle.ep_records.specs.Short.{IsSilentShort, IsToldShort};

@@ -2,9 +2,14 @@
 ghost use Rattle.std.specs.Prelude.{◌≡◌, ◌<◌, ◌≤◌, ◌≤ℤ◌, ◌^◌, [], ◌∷◌, IfSome, IsSome, Some, length, pos};
 ghost use Rattle.std.specs.Int.{cast_signed, w64};
 ghost use Rattle.ep_base.specs.Call.{IsOnObject, MakesFiles};
-ghost use Rattle.ep_base.specs.declared.call.Call.TheVariants.{EventFd as event_fd_call, GetTime as get_time_call, Pipe as pipe_call, Read as read_call, SetTime as set_time_call, SocketPair as socket_pair_call, TimerFd as timer_fd_call, Write as write_call};
+ghost use Rattle.ep_base.specs.declared.call.Call.TheVariants.{EventFd as event_fd_call};
+ghost use Rattle.ep_base.specs.declared.call.Call.TheVariants.{GetTime as get_time_call, Pipe as pipe_call};
+ghost use Rattle.ep_base.specs.declared.call.Call.TheVariants.{Read as read_call, SetTime as set_time_call};
+ghost use Rattle.ep_base.specs.declared.call.Call.TheVariants.{SocketPair as socket_pair_call};
+ghost use Rattle.ep_base.specs.declared.call.Call.TheVariants.{TimerFd as timer_fd_call, Write as write_call};
 ghost use Rattle.ep_records.specs.Slot.{IsOnInstance, event_in, event_of, is_set, made, only_fd, quiet, record_in, told};
-ghost use Rattle.ep_records.specs.Short.{IsBrief, IsShortCall, IsShortPair, IsShortRead, IsShortEvent, IsShortReporter, IsShortSetting, IsToldShort, IsWait};
+ghost use Rattle.ep_records.specs.Short.{IsBrief, IsShortCall, IsShortPair, IsShortRead, IsShortEvent};
+ghost use Rattle.ep_records.specs.Short.{IsShortReporter, IsShortSetting, IsToldShort, IsWait};
 
 use crate::slot::{BLANK, Kind, Slot, What};
 use crate::sockets::{family_number, how_number};

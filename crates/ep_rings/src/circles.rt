@@ -1,6 +1,7 @@
 //! Circles of keys, one for each owner that has some.
 ghost use Rattle.std.specs.Prelude.{◌≡◌, ◌<◌, ◌≤◌, ℕ, [], All, IfSome, OnOk, Option, Some, if◌then◌else◌, length, map, nat_lt, not, ◌==◌};
-ghost use Rattle.ep_rings.specs.Circles.{AreCircles, CanJoin, CanLeave, Joins, Leaves, Whose, keys_in, lengthened, own_head, row_of, shortened, turned};
+ghost use Rattle.ep_rings.specs.Circles.{AreCircles, CanJoin, CanLeave, Joins, Leaves, Whose, keys_in};
+ghost use Rattle.ep_rings.specs.Circles.{lengthened, own_head, row_of, shortened, turned};
 ghost use Rattle.ep_rings.specs.KeyWalk.{entry_id};
 ghost use Rattle.ep_rings.specs.Links.{next_of, prev_of};
 ghost use Rattle.ep_rings.specs.declared.circle.Circle.{Circle as Head};

@@ -3,7 +3,8 @@ ghost use Rattle.std.specs.Map.Iter.{ShowsInOrder};
 ghost use Rattle.std.specs.Prelude.{◌≡◌, ◌<◌, ◌≤◌, ℕ, OnOk, false, length, true};
 ghost use Rattle.ep_base.specs.declared.ids.EntryId.{EntryId};
 ghost use Rattle.ep_machine.specs.Lists.{is_among};
-ghost use Rattle.ep_rings.specs.PlacedRows.{AreApart, KeepsRows, first_in, head_at, ids_at, keys_at, no_rows, with_key, with_turn, without_key};
+ghost use Rattle.ep_rings.specs.PlacedRows.{AreApart, KeepsRows, first_in, head_at, ids_at, keys_at, no_rows};
+ghost use Rattle.ep_rings.specs.PlacedRows.{with_key, with_turn, without_key};
 
 use crate::circle::Circle;
 use crate::circles::Circles;

@@ -4,7 +4,9 @@ ghost use Rattle.ep_base.specs.Limits.{default_limits};
 ghost use Rattle.ep_base.specs.declared.answer.Answer.TheVariants.{Done, Refused};
 ghost use Rattle.ep_base.specs.declared.errno.Errno.TheVariants.{Eagain, Ebadf, Eexist, Einval, Emfile, Enfile, Enospc, Eperm, Esrch};
 ghost use Rattle.ep_runs.specs.Records.{small_limits, two};
-ghost use Rattle.ep_runs.specs.RefusalRuns.{ctl_run, descriptors_first_run, descriptors_run, files_run, masks_run, process_run, read_run, wait_run, watches_run, write_run};
+ghost use Rattle.ep_runs.specs.RefusalRuns.{ctl_run, descriptors_first_run, descriptors_run, files_run};
+ghost use Rattle.ep_runs.specs.RefusalRuns.{masks_run, process_run, read_run, wait_run, watches_run};
+ghost use Rattle.ep_runs.specs.RefusalRuns.{write_run};
 ghost use Rattle.ep_machine.specs.Run.{is_run};
 
 /// EMFILE of pipe2(2) and epoll_create1(2).

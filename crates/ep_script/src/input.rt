@@ -1,6 +1,7 @@
 //! Reads chunks of the input, and cuts lines from them.
 ghost use Rattle.std.specs.Io.KnownBytes.{prepend_known};
-ghost use Rattle.std.specs.Prelude.{◌≡◌, ◌+◌, ◌++◌, ◌<◌, ◌≤◌, ◌⊎◌, ◌∷◌, IfErr, IfOk, IsErrOf, OnErr, OnOk, [], drop, false, length, take, true};
+ghost use Rattle.std.specs.Prelude.{◌≡◌, ◌+◌, ◌++◌, ◌<◌, ◌≤◌, ◌⊎◌, ◌∷◌, IfErr, IfOk, IsErrOf, OnErr, OnOk};
+ghost use Rattle.std.specs.Prelude.{[], drop, false, length, take, true};
 ghost use Rattle.ep_script.specs.Known.{Leads};
 ghost use Rattle.ep_script.specs.Lines.{IsPlain};
 ghost use Rattle.ep_script.specs.Steps.{IsTooLong};

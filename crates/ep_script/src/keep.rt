@@ -1,6 +1,7 @@
 //! Keeps the records of a run, or keeps none.
 ghost use Rattle.std.specs.Io.KnownBytes.{Appends};
-ghost use Rattle.std.specs.Prelude.{◌≡◌, ◌⊎◌, ◌-◌, ◌<◌, ℕ, Bool, IfErr, IfOk, IsErrOf, List, None, OnErr, OnOk, Option, Some, false, length, take, true};
+ghost use Rattle.std.specs.Prelude.{◌≡◌, ◌⊎◌, ◌-◌, ◌<◌, ℕ, Bool, IfErr, IfOk, IsErrOf, List, None, OnErr};
+ghost use Rattle.std.specs.Prelude.{OnOk, Option, Some, false, length, take, true};
 ghost use Rattle.ep_script.specs.Lines.{most_gathered};
 ghost use Rattle.ep_script.specs.Recorded.{line_at, line_if};
 

@@ -1,5 +1,6 @@
 //! A kernel whose callers have a session each, and the sessions.
-ghost use Rattle.std.specs.Prelude.{◌≡◌, ℕ, ◌+◌, ◌<◌, ◌≤◌, [], All, IfOk, Some, filter, length, map, slice_index_or, true, vec_capacity, vec_len};
+ghost use Rattle.std.specs.Prelude.{◌≡◌, ℕ, ◌+◌, ◌<◌, ◌≤◌, [], All, IfOk, Some, filter, length, map};
+ghost use Rattle.std.specs.Prelude.{slice_index_or, true, vec_capacity, vec_len};
 ghost use Rattle.std.specs.List.{range_with_len};
 ghost use Rattle.ep_base.specs.Call.{EventHasNoBytes};
 ghost use Rattle.ep_machine.specs.Run.{run};

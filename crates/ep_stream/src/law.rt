@@ -1,5 +1,6 @@
 //! The law of what is raised.
-ghost use Rattle.ep_stream.specs.Law.{PairCloseLaw, PairErrorLaw, PairPeekLaw, PairReadLaw, PairShutdownLaw, PairWriteLaw, PipeCloseLaw, PipeReadLaw, PipeWriteLaw};
+ghost use Rattle.ep_stream.specs.Law.{PairCloseLaw, PairErrorLaw, PairPeekLaw, PairReadLaw, PairShutdownLaw};
+ghost use Rattle.ep_stream.specs.Law.{PairWriteLaw, PipeCloseLaw, PipeReadLaw, PipeWriteLaw};
 
 /// A bit that begins to hold at an end of a pipe or of a socket pair, which is there before and
 /// after, is raised at that end, by a read, a peek, a write, a shutdown, a close, and as an error is taken. This does

@@ -1,7 +1,8 @@
 //! Pipes, as pipe(7) describes them.
 ghost use Rattle.std.specs.Prelude.{◌≡◌, ◌≤◌, length, min, IfOk, IsOk, OnErr};
 ghost use Rattle.ep_machine.specs.Effect.{attempt, first};
-ghost use Rattle.ep_machine.specs.Pipe.{new_pipe, pipe_close, pipe_present, pipe_read, pipe_read_refusals, pipe_room, pipe_write, pipe_write_refusals};
+ghost use Rattle.ep_machine.specs.Pipe.{new_pipe, pipe_close, pipe_present, pipe_read, pipe_read_refusals};
+ghost use Rattle.ep_machine.specs.Pipe.{pipe_room, pipe_write, pipe_write_refusals};
 ghost use Rattle.ep_stream.specs.Waiting.{pipe_waiting};
 
 use crate::bits::{NONE, beginning, intersection, union, when};

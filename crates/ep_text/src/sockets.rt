@@ -2,8 +2,11 @@
 ghost use Rattle.std.specs.Prelude.{◌≡◌};
 ghost use Rattle.ep_text.specs.Keys.{optional, required};
 ghost use Rattle.ep_text.specs.Ops.{IsOfSocket, call_of};
-ghost use Rattle.ep_text.specs.SocketCalls.{accept_call, bind_call, connect_call, listen_call, peek_call, peername_call, shutdown_call, sockerr_call, socket_call, sockname_call};
-ghost use Rattle.ep_text.specs.Sockets.{family, family_value, how, how_value, name_in, number_in, port, port_value, space, space_text, space_value};
+ghost use Rattle.ep_text.specs.SocketCalls.{accept_call, bind_call, connect_call, listen_call, peek_call};
+ghost use Rattle.ep_text.specs.SocketCalls.{peername_call, shutdown_call, sockerr_call, socket_call};
+ghost use Rattle.ep_text.specs.SocketCalls.{sockname_call};
+ghost use Rattle.ep_text.specs.Sockets.{family, family_value, how, how_value, name_in, number_in, port};
+ghost use Rattle.ep_text.specs.Sockets.{port_value, space, space_text, space_value};
 ghost use Rattle.ep_text.specs.Source.{found_data, source_data};
 
 use crate::fields::{fit, flag, required_i32, required_u32};
