@@ -1,5 +1,6 @@
 //! The description on whose object an event is a call.
 ghost use Rattle.std.specs.Prelude.{◌≡◌, IfSome, IsSome, None, false};
+ghost use Rattle.ep_base.specs.declared.socket.Hearing.TheVariants.{Nobody};
 ghost use Rattle.ep_alarms.specs.Called.{IsCalled, fd_in};
 ghost use Rattle.ep_machine.specs.Objects.{object_call};
 ghost use Rattle.ep_table.specs.Value.{number_under};
@@ -10,7 +11,7 @@ use ep_calls::Parts;
 /// The descriptor on whose object a call is. `None` of a call that is on none.
 #[inline(always)]
 fn called_descriptor(call: &Call) -> Option<Fd>
-    ensures { result ≡ fd_in (object_call None false call.now) }
+    ensures { result ≡ fd_in (object_call None Nobody call.now) }
 {
     match *call {
         Call::Read { fd, .. }

@@ -28,5 +28,5 @@ pub use crate::mask::Mask;
 pub use crate::object::{End, Raised};
 pub use crate::record::Record;
 pub use crate::short_list::{Bytes, Picked, Reports, ShortList};
-pub use crate::socket::{Family, How, Name, Space};
+pub use crate::socket::{Family, Hearing, How, Name, Space};
 pub use crate::time::{LAST_MOMENT, Moment, Span, Timeout};

@@ -29,6 +29,17 @@ pub struct Name {
     pub number: u32,
 }
 
+/// Who hears a connect(2) by a name.
+#[derive(Clone, Copy, Debug, PartialEq, Eq)]
+pub enum Hearing {
+    /// Nobody listens at the name.
+    Nobody,
+    /// A socket listens there, and as many connections wait at it as may.
+    Full,
+    /// A socket listens there, and one more connection may wait at it.
+    Somebody,
+}
+
 /// What shutdown(2) shuts.
 #[derive(Clone, Copy, Debug, PartialEq, Eq)]
 pub enum How {

@@ -1,6 +1,8 @@
 -- What a call asks of an object, and the name that was found free for it.
 use Rattle.std.proofs.Common.{Bool, List, None, Option, Some, ap, false, if◌then◌else◌, is_none, refl, subst, suc, sym, true, zero, ℕ, ◌+◌, ◌==◌, ◌≡◌, ◌∙◌}
 use Rattle.std.proofs.lemmas.Bool.{false≢true}
+use Rattle.ep_base.specs.declared.socket.Hearing.{Hearing}
+use Rattle.ep_base.specs.declared.socket.Hearing.TheVariants.{Nobody}
 use Rattle.ep_base.specs.declared.call.Call.{Call}
 use Rattle.ep_base.specs.declared.call.Call.TheVariants.{Bind, Connect, Listen}
 use Rattle.ep_base.specs.declared.ids.Fd.{Fd}
@@ -8,12 +10,12 @@ use Rattle.ep_base.specs.declared.socket.Name.{Name}
 use Rattle.ep_base.specs.declared.socket.Space.{Space}
 use Rattle.ep_machine.specs.Names.{free_from, free_name, given}
 use Rattle.ep_base.specs.declared.socket.Space.TheVariants.{V4}
-use Rattle.ep_machine.specs.Objects.{Object, ObjectCall, asks, found_for, is_heard, is_taken, object_call}
+use Rattle.ep_machine.specs.Objects.{Object, ObjectCall, asks, found_for, hearing, is_taken, object_call}
 use Rattle.ep_object.specs.Asked.{is_naming, naming_call, plain_call}
 use Rattle.ep_table.specs.Taking.{FindsFree, IsFree}
 
 -- whether a call is on an object doesn't go by the name
-both_none : (a b : Option Name) (h g : Bool) (call : Call) → is_none (object_call a h call) ≡ is_none (object_call b g call)
+both_none : (a b : Option Name) (h g : Hearing) (call : Call) → is_none (object_call a h call) ≡ is_none (object_call b g call)
 both_none a b h g (Bind fd name) = refl
 both_none a b h g call = refl
 
@@ -21,15 +23,15 @@ is_nothing : {A : Type 0} (o : Option A) → is_none o ≡ true → o ≡ None
 is_nothing None h = refl
 is_nothing (Some x) h = absurd (false≢true h)
 
-pub none_anyway : (a b : Option Name) (h g : Bool) (call : Call) → object_call a h call ≡ None → object_call b g call ≡ None
+pub none_anyway : (a b : Option Name) (h g : Hearing) (call : Call) → object_call a h call ≡ None → object_call b g call ≡ None
 none_anyway a b h g call is = is_nothing (object_call b g call) (sym (both_none a b h g call) ∙ ap (λ (o : Option (Fd × ObjectCall)). is_none o) is)
 
 -- one that is on none is on none whatever the files have
-pub asks_none : (objects : List (Option Object)) (call : Call) → object_call None false call ≡ None → asks objects call ≡ None
-asks_none objects call h = none_anyway None (found_for (is_taken objects) call) false (is_heard objects call) call h
+pub asks_none : (objects : List (Option Object)) (call : Call) → object_call None Nobody call ≡ None → asks objects call ≡ None
+asks_none objects call h = none_anyway None (found_for (is_taken objects) call) Nobody (hearing objects call) call h
 
 -- What is asked by a bind, a listen or a connect, and by any other call.
-pub naming_is_asked : (objects : List (Option Object)) (call : Call) (on : Fd × ObjectCall) → naming_call (found_for (is_taken objects) call) (is_heard objects call) call ≡ Some on → asks objects call ≡ Some on
+pub naming_is_asked : (objects : List (Option Object)) (call : Call) (on : Fd × ObjectCall) → naming_call (found_for (is_taken objects) call) (hearing objects call) call ≡ Some on → asks objects call ≡ Some on
 naming_is_asked objects (Bind fd name) on h = h
 naming_is_asked objects (Listen fd backlog) on h = h
 naming_is_asked objects (Connect fd name) on h = h

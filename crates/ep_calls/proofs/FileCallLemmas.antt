@@ -1,7 +1,8 @@
 -- A call on files as it is taken apart.
-use Rattle.std.proofs.Common.{◌≡◌, List, None, Option, Some, false, true}
+use Rattle.std.proofs.Common.{◌≡◌, List, None, Option, Some, true}
 use Rattle.std.proofs.lemmas.Bool.{false≢true}
 use Rattle.std.proofs.lemmas.Option.{none-some}
+use Rattle.ep_base.specs.declared.socket.Hearing.TheVariants.{Nobody}
 use Rattle.ep_base.specs.declared.call.Call.{Call}
 use Rattle.ep_base.specs.declared.call.Call.TheVariants.{EpollCtl, EpollWait, TimerFd}
 use Rattle.ep_base.specs.declared.ids.Fd.{Fd}
@@ -9,13 +10,13 @@ use Rattle.ep_calls.specs.FileCall.{IsFileCall}
 use Rattle.ep_calls.specs.TableCall.{IsTableCall, MakesTimer}
 use Rattle.ep_calls.proofs.AskedLemmas.{none_anyway}
 use Rattle.ep_object.specs.Asked.{is_naming}
-use Rattle.ep_machine.specs.Objects.{Object, ObjectCall, asks, found_for, is_heard, is_taken}
+use Rattle.ep_machine.specs.Objects.{Object, ObjectCall, asks, found_for, hearing, is_taken}
 
 -- one that is on no object is on the tables alone
 pub is_table_call : (objects : List (Option Object)) (call : Call) → IsFileCall call → asks objects call ≡ None → IsTableCall call
 is_table_call objects (EpollCtl epfd op fd mask tag) t h = absurd t
 is_table_call objects (EpollWait epfd most timeout) t h = absurd t
-is_table_call objects call t h = none_anyway (found_for (is_taken objects) call) None (is_heard objects call) false call h
+is_table_call objects call t h = none_anyway (found_for (is_taken objects) call) None (hearing objects call) Nobody call h
 
 -- a bind, a listen or a connect makes no timer
 pub names_no_timer : (call : Call) → is_naming call ≡ true → MakesTimer call → ⊥

@@ -8,7 +8,7 @@ use Rattle.ep_base.specs.declared.call.Call.TheVariants.{Connect}
 use Rattle.ep_machine.specs.Unconnected.{Idle}
 use Rattle.ep_base.specs.declared.socket.Name.{Name}
 use Rattle.ep_machine.specs.Sockets.{is_tcp}
-use Rattle.ep_machine.specs.Objects.{connect, plain, asks, ObjectCall, found_for, is_taken, is_heard, connects, connect_refusals, of_socket, Object}
+use Rattle.ep_machine.specs.Objects.{connect, plain, asks, ObjectCall, found_for, is_taken, hearing, connects, connect_refusals, of_socket, Object}
 use Rattle.ep_machine.specs.Files.{with_object, object_at, object_number, Files, Place, object_under, place_of, named_by, names_nothing}
 use Rattle.ep_base.specs.Limits.{Limits}
 use Rattle.ep_machine.specs.State.{State, Change}
@@ -39,7 +39,7 @@ module _ (limits : Limits) (s : State) (p : ℕ) where
       → IsIdle (object_under (object_change s p fd.0 asked).1.files p at.0) x → first (on_object s p fd.0 asked) ≡ None → ⊥
   asked_connect at fd name asked is x unix under allowed =
       let found = found_for (is_taken s.files.objects) (Connect at name) in
-      let heard = is_heard s.files.objects (Connect at name) in
+      let heard = hearing s.files.objects (Connect at name) in
       let same : (at, connects name.space found heard) ≡ (fd, asked) = cc in
       let y = object_under s.files p at.0 in
       let here : IsIdle (object_under (object_change s p at.0 (connects name.space found heard)).1.files p at.0) x = ap (λ (on : Fd × ObjectCall). object_under (object_change s p on.0.0 on.1).1.files p at.0) same ∙ under in

@@ -1,6 +1,8 @@
 -- What an event answers takes no memory to copy, or there is a copy.
 use Rattle.std.proofs.Common.{◌≡◌, ◌≤◌, ℕ, ℤ, Bool, false, true, if◌then◌else◌, List, [], ◌∷◌, Option, None, Some, arith, length, subst, sym}
 use Rattle.std.specs.Prelude.{MatchOption}
+use Rattle.ep_base.specs.declared.socket.Hearing.{Hearing}
+use Rattle.ep_base.specs.declared.socket.Hearing.TheVariants.{Nobody}
 use Rattle.ep_base.specs.Answer.{FitsInline}
 use Rattle.ep_base.specs.Limits.{Limits}
 use Rattle.ep_base.specs.declared.answer.Answer.{Answer}
@@ -13,7 +15,7 @@ use Rattle.ep_base.specs.declared.ids.Fd.{Fd}
 use Rattle.ep_base.specs.declared.socket.Name.{Name}
 use Rattle.ep_machine.specs.Files.{Files}
 use Rattle.ep_machine.specs.FilesCalls.{files_call}
-use Rattle.ep_machine.specs.Objects.{ObjectCall, asks, found_for, is_heard, is_taken, object_call}
+use Rattle.ep_machine.specs.Objects.{ObjectCall, asks, found_for, hearing, is_taken, object_call}
 use Rattle.ep_machine.specs.Refusal.{refusals}
 use Rattle.ep_machine.specs.Report.{plainly}
 use Rattle.ep_machine.specs.State.{Change, State}
@@ -45,7 +47,7 @@ files_fit limits f p busy (PipeCall cloexec) = tt
 files_fit limits f p busy call = tt
 
 -- whatever name was found for it
-kept_anyway : (a b : Option Name) (x y : Bool) (call : Call) (kept : Bool) (o : Outcome) → KeepsAsked (object_call a x call) kept o → KeepsAsked (object_call b y call) kept o
+kept_anyway : (a b : Option Name) (x y : Hearing) (call : Call) (kept : Bool) (o : Outcome) → KeepsAsked (object_call a x call) kept o → KeepsAsked (object_call b y call) kept o
 kept_anyway a b x y (Bind fd name) kept o h = h
 kept_anyway a b x y call kept o h = h
 
@@ -58,7 +60,7 @@ module _ (limits : Limits) (s : State) (caller : ℕ) (o : Outcome) (kept : Bool
   told_call p (EpollCtl epfd op fd mask tag) made is same keeps = told_plainly o.picked _ made o.answer is same (ctl_fits s p epfd.0 op fd.0 mask.0 tag)
   told_call p (EpollWait epfd most timeout) made is same keeps = keeps asked none
   told_call p call made is same keeps =
-      told_asked p call (asks s.files.objects call) made is same (kept_anyway None (found_for (is_taken s.files.objects) call) false (is_heard s.files.objects call) call kept o keeps)
+      told_asked p call (asks s.files.objects call) made is same (kept_anyway None (found_for (is_taken s.files.objects) call) Nobody (hearing s.files.objects call) call kept o keeps)
 
   told : (r : Option Errno) (c : Option Change) (new : Parts) → ((made : Change) → c ≡ Some made → made.0 ≡ o.answer → IsInline o.answer o.picked)
       → MatchOption r (Makes c o.answer new) (λ e. Refuses s e o.answer o.picked new) → IsInline o.answer o.picked
@@ -77,7 +79,7 @@ kept_asked (Some on) kept o h = h
 
 pub any_call : (call : Call) (kept : Bool) (o : Outcome) → IsKept kept o → KeepsCall call kept o
 any_call (EpollWait epfd most timeout) kept o h = h
-any_call call kept o h = kept_asked (object_call None false call) kept o h
+any_call call kept o h = kept_asked (object_call None Nobody call) kept o h
 
 pub table_call_kept : (call : Call) (kept : Bool) (o : Outcome) → IsTableCall call → KeepsCall call kept o
 table_call_kept (EpollCtl epfd op fd mask tag) kept o h = absurd h

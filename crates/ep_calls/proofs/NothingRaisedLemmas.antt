@@ -2,6 +2,7 @@
 use Rattle.std.proofs.Common.{not, map, ◌≡◌, ◌∙◌, ℕ, ℤ, zero, suc, pos, negsuc, Bool, true, false, List, [], ◌∷◌, None, Option, Some, ap, cond, refl, subst, sym, unwrap_or}
 use Rattle.std.specs.Prelude.{MatchOption}
 use Rattle.std.proofs.lemmas.Option.{none-some}
+use Rattle.ep_base.specs.declared.socket.Hearing.TheVariants.{Nobody}
 use Rattle.ep_base.specs.Limits.{Limits}
 use Rattle.ep_base.specs.declared.call.Call.{Call}
 use Rattle.ep_base.specs.declared.call.Call.TheVariants.{EpollCtl, EpollWait}
@@ -40,7 +41,7 @@ use Rattle.ep_calls.specs.Stands.{Stands}
 -- any call but one on the object that a descriptor names, and epoll_ctl
 abbrev pub IsOffObject : Call → Type 0
 IsOffObject (EpollCtl epfd op fd mask tag) = ⊥
-IsOffObject call = object_call None false call ≡ None
+IsOffObject call = object_call None Nobody call ≡ None
 
 -- as a call on the tables alone is
 pub off_object : (call : Call) → IsTableCall call → IsOffObject call

@@ -8,6 +8,7 @@ use Rattle.std.proofs.lemmas.Option.{none-some}
 use Rattle.smallvec.specs.SmallVec.{HasRoomFor}
 use Rattle.smallvec.specs.declared.SmallVec.{SmallVec}
 use Rattle.ep_calls.specs.Reply.{IsSettled}
+use Rattle.ep_base.specs.declared.socket.Hearing.{Hearing}
 use Rattle.ep_base.specs.declared.answer.Answer.{Answer}
 use Rattle.ep_base.specs.declared.answer.Answer.TheVariants.{Bytes, Connecting, Done, Events, Failed, Named, Num, Refused, Time}
 use Rattle.ep_base.specs.declared.errno.Errno.{Errno}
@@ -69,13 +70,13 @@ fits_settled x e now asked h =
     (λ none. given_settled (object_effect x e now asked).0 (asked_of asked) (object_waiting x e asked) (gives_few x e now asked none) h)
 
 -- a bind, a listen or a connect asks for no bytes
-names_for_none : (found : Option Name) (heard : Bool) (call : Call) (on : Fd × ObjectCall) → naming_call found heard call ≡ Some on → asked_of on.1 ≡ 0
+names_for_none : (found : Option Name) (heard : Hearing) (call : Call) (on : Fd × ObjectCall) → naming_call found heard call ≡ Some on → asked_of on.1 ≡ 0
 names_for_none found heard (Bind fd name) on h = ap (λ (o : Option (Fd × ObjectCall)). asked_of (asked_in o)) (sym h)
 names_for_none found heard (Listen fd backlog) on h = ap (λ (o : Option (Fd × ObjectCall)). asked_of (asked_in o)) (sym h)
 names_for_none found heard (Connect fd name) on h = ap (λ (o : Option (Fd × ObjectCall)). asked_of (asked_in o)) (sym h)
 names_for_none found heard call on h = cc
 
-pub naming_settled : (x : Object) (e : End) (now : ℕ) (call : Call) (found : Option Name) (heard : Bool) (on : Fd × ObjectCall) → naming_call found heard call ≡ Some on
+pub naming_settled : (x : Object) (e : End) (now : ℕ) (call : Call) (found : Option Name) (heard : Hearing) (on : Fd × ObjectCall) → naming_call found heard call ≡ Some on
     → IsSettled (attempt (object_refusals x e now on.1) x (object_effect x e now on.1)).0
 naming_settled x e now call found heard on h = let none = names_for_none found heard call on h in fits_settled x e now on.1 (omega (arith, none))
 

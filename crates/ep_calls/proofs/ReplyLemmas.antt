@@ -1,5 +1,5 @@
 -- Which answers take no memory, and make no report.
-use Rattle.std.proofs.Common.{◌≡◌, [], arith, length, subst, sym, ℕ, List}
+use Rattle.std.proofs.Common.{arith, subst, sym, ℕ, List}
 use Rattle.smallvec.specs.declared.SmallVec.{SmallVec}
 use Rattle.std.specs.declared.alloc.Global.{Global}
 use Rattle.ep_base.specs.Answer.{FitsInline}

@@ -1,8 +1,9 @@
 -- Calls on the tables alone.
 use Rattle.std.specs.List.{list_any}
-use Rattle.std.specs.Prelude.{◌≡◌, List, None, false, ℕ}
+use Rattle.std.specs.Prelude.{◌≡◌, List, None, ℕ}
 use Rattle.ep_base.specs.declared.call.Call.{Call}
 use Rattle.ep_base.specs.declared.call.Call.TheVariants.{EpollCtl, EpollWait, TimerFd}
+use Rattle.ep_base.specs.declared.socket.Hearing.TheVariants.{Nobody}
 use Rattle.ep_machine.specs.FilesCalls.{FilesCall, files_call}
 use Rattle.ep_machine.specs.Objects.{object_call}
 use Rattle.ep_machine.specs.State.{Waiter}
@@ -14,7 +15,7 @@ use Rattle.ep_table.specs.Value.{Seen}
 abbrev pub IsTableCall : Call → Type 0
 IsTableCall (EpollCtl epfd op fd mask tag) = ⊥
 IsTableCall (EpollWait epfd most timeout) = ⊥
-IsTableCall call = object_call None false call ≡ None
+IsTableCall call = object_call None Nobody call ≡ None
 
 -- a call that makes a timer
 abbrev pub MakesTimer : Call → Type 0

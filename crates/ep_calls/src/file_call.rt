@@ -39,7 +39,7 @@ impl Parts {
         ensures err { OnErr result (self.new ≡ self.old) }
     {
         let found = self.tables.found_for(call);
-        let heard = self.tables.is_heard(call);
+        let heard = self.tables.hearing(call);
         let (fd, asked) = NamingCall::of(call, found, heard);
         let Some(desc) = self.tables.lookup(pid, fd) else {
             return Ok(Outcome::refused(Errno::Ebadf));

@@ -1,15 +1,17 @@
 -- Sockets that listen, and what waits there to be accepted.
-use Rattle.std.specs.Prelude.{Bool, List, Option, [], is_none, min, nat_lt, negsuc, not, pos, true, ℕ, ℤ, ◌&&◌, ◌++◌, ◌∷◌}
+use Rattle.std.specs.Prelude.{Bool, List, Option, [], if◌then◌else◌, is_none, length, min, nat_lt, negsuc, not, pos, true, ℕ, ℤ, ◌&&◌, ◌++◌, ◌∷◌}
 use Rattle.ep_base.specs.declared.errno.Errno.{Errno}
-use Rattle.ep_base.specs.declared.errno.Errno.TheVariants.{Eaddrinuse, Econnrefused, Einval, Eisconn}
+use Rattle.ep_base.specs.declared.errno.Errno.TheVariants.{Eaddrinuse, Einval, Eisconn}
 use Rattle.ep_base.specs.declared.socket.Family.{Family}
 use Rattle.ep_base.specs.declared.socket.Family.TheVariants as families
+use Rattle.ep_base.specs.declared.socket.Hearing.{Hearing}
+use Rattle.ep_base.specs.declared.socket.Hearing.TheVariants.{Full, Somebody}
 use Rattle.ep_base.specs.declared.socket.Name.{Name}
 use Rattle.ep_base.specs.declared.socket.Space.{Space}
 use Rattle.ep_machine.specs.Bits.{IN, when}
 use Rattle.ep_machine.specs.Lists.{is_empty}
 use Rattle.ep_machine.specs.Sockets.{is_tcp}
-use Rattle.ep_machine.specs.Unconnected.{Idle, family_refusals, name_or, unread_error, unwritten_error}
+use Rattle.ep_machine.specs.Unconnected.{Idle, family_refusals, name_or, unheard_refusals, unread_error, unwritten_error}
 
 pub record Listener : Type 0 where
   pub family : Family
@@ -39,6 +41,10 @@ new_listener family name backlog = record { family = family; name = name; backlo
 abbrev pub listener_listen : Listener → ℤ → Listener
 listener_listen x backlog = record x { backlog = backlog_of backlog }
 
+-- One more connection may wait there, until more wait than its backlog.
+abbrev pub hearing_at : Listener → Hearing
+hearing_at x = if nat_lt x.backlog (length x.pending) then Full else Somebody
+
 -- it can be read once something waits there
 abbrev pub listener_present : Listener → ℕ
 listener_present x = when (not (is_empty x.pending)) IN
@@ -53,8 +59,7 @@ listener_write_refusals x bytes = (not (is_empty bytes), unwritten_error x.famil
 abbrev pub listener_bind_refusals : Listener → Space → List (Bool × Errno)
 listener_bind_refusals x space = family_refusals x.family space ++ (true, Einval) ∷ []
 
--- It connects to nobody. Whether anybody listens at the name is told first of Unix.
-abbrev pub listener_connect_refusals : Family → Space → Bool → List (Bool × Errno)
-listener_connect_refusals families.Unix space heard =
-    family_refusals families.Unix space ++ (not heard, Econnrefused) ∷ (true, Einval) ∷ []
+-- It connects to nobody. Who hears it is told first of Unix.
+abbrev pub listener_connect_refusals : Family → Space → Hearing → List (Bool × Errno)
+listener_connect_refusals families.Unix space heard = unheard_refusals space heard ++ (true, Einval) ∷ []
 listener_connect_refusals families.Tcp space heard = (true, Eisconn) ∷ []

@@ -1,15 +1,16 @@
 -- The eight kinds of object. What an instance shows is judged in Readiness.
 use Rattle.std.specs.List.{list_any}
-use Rattle.std.specs.Prelude.{Bool, List, None, Option, Some, [], false, length, not, true, ℕ, ℤ, ◌&&◌, ◌++◌, ◌||◌, ◌∷◌}
+use Rattle.std.specs.Prelude.{Bool, List, None, Option, Some, [], false, if◌then◌else◌, length, not, true, ℕ, ℤ, ◌&&◌, ◌++◌, ◌||◌, ◌∷◌}
 use Rattle.ep_base.specs.declared.answer.Answer.TheVariants.{Bytes, Done, Named, Num}
 use Rattle.ep_base.specs.declared.call.Call.{Call}
 use Rattle.ep_base.specs.declared.call.Call.TheVariants.{Bind, Connect, GetTime, Listen, Peek, Read, SetTime, Shutdown, SocketName, TakeError, Write}
 use Rattle.ep_base.specs.declared.errno.Errno.{Errno}
-use Rattle.ep_base.specs.declared.errno.Errno.TheVariants.{Econnrefused, Einval, Eisconn, Enotconn, Enotsock}
+use Rattle.ep_base.specs.declared.errno.Errno.TheVariants.{Einval, Eisconn, Enotconn, Enotsock}
 use Rattle.ep_base.specs.declared.ids.Fd.{Fd}
 use Rattle.ep_base.specs.declared.object.End.{End}
 use Rattle.ep_base.specs.declared.object.Raised.{Raised}
-use Rattle.ep_base.specs.declared.socket.Family.TheVariants as families
+use Rattle.ep_base.specs.declared.socket.Hearing.{Hearing}
+use Rattle.ep_base.specs.declared.socket.Hearing.TheVariants.{Nobody}
 use Rattle.ep_base.specs.declared.socket.How.{How}
 use Rattle.ep_base.specs.declared.socket.Name.{Name}
 use Rattle.ep_base.specs.declared.socket.Space.{Space}
@@ -17,14 +18,14 @@ use Rattle.ep_base.specs.declared.socket.Space.TheVariants.{V4}
 use Rattle.ep_machine.specs.Bits.{nothing}
 use Rattle.ep_machine.specs.Counters.{Counter, counter_present, counter_read, counter_read_refusals, counter_write, counter_write_refusals}
 use Rattle.ep_machine.specs.Effect.{Effect}
-use Rattle.ep_machine.specs.Listening.{Listener, idle_listen_refusals, listener_bind_refusals, listener_connect_refusals, listener_listen}
+use Rattle.ep_machine.specs.Listening.{Listener, hearing_at, idle_listen_refusals, listener_bind_refusals, listener_connect_refusals, listener_listen}
 use Rattle.ep_machine.specs.Listening.{listener_present, listener_read_refusals, listener_write_refusals, new_listener}
 use Rattle.ep_machine.specs.Names.{free_name, given, is_there, same_name}
 use Rattle.ep_machine.specs.Pipe.{Pipe, pipe_close, pipe_present, pipe_read, pipe_read_refusals, pipe_write, pipe_write_refusals}
 use Rattle.ep_machine.specs.Sockets.{SocketPair, pair_close, pair_name, pair_name_refusals, pair_peek, pair_present, pair_read, pair_read_refusals}
 use Rattle.ep_machine.specs.Sockets.{pair_shut_refusals, pair_shutdown, pair_take_error, pair_write, pair_write_refusals}
 use Rattle.ep_machine.specs.Timer.{Timer, timer_advance, timer_present, timer_read, timer_read_refusals, timer_set_refusals, timer_setting, timer_settime}
-use Rattle.ep_machine.specs.Unconnected.{Idle, family_refusals, idle_bind, idle_bind_refusals, idle_connect, idle_connect_refusals, idle_name, name_or}
+use Rattle.ep_machine.specs.Unconnected.{Idle, family_refusals, idle_bind, idle_bind_refusals, idle_connect, idle_connect_refusals, idle_name, name_or, unheard_refusals}
 use Rattle.ep_machine.specs.Unconnected.{idle_present, idle_read, idle_read_refusals, idle_take_error, idle_write, idle_write_refusals}
 
 pub data Object : Type 0 where
@@ -166,11 +167,11 @@ abbrev pub bind : Object → Option Name → Effect Object
 bind (idle i) found = effect_on idle (idle_bind i found)
 bind x found = (Done, x, nothing)
 
--- Whether anybody listens at the name is told of Unix before a connection is.
-abbrev pub pair_connect_refusals : Space → Bool → List (Bool × Errno)
-pair_connect_refusals space heard = family_refusals families.Unix space ++ (not heard, Econnrefused) ∷ (true, Eisconn) ∷ []
+-- Who hears it is told of Unix before a connection is.
+abbrev pub pair_connect_refusals : Space → Hearing → List (Bool × Errno)
+pair_connect_refusals space heard = unheard_refusals space heard ++ (true, Eisconn) ∷ []
 
-abbrev pub connect_refusals : Object → Space → Option Name → Bool → List (Bool × Errno)
+abbrev pub connect_refusals : Object → Space → Option Name → Hearing → List (Bool × Errno)
 connect_refusals (pair p) space found heard = pair_connect_refusals space heard
 connect_refusals (idle i) space found heard = idle_connect_refusals i space found heard
 connect_refusals (listener l) space found heard = listener_connect_refusals l.family space heard
@@ -217,14 +218,15 @@ pub data ObjectCall : Type 0 where
   asks_name : Bool → ObjectCall
   binds : Space → Option Name → ObjectCall  -- by a name of this space; the name that was found free for it
   listens : ℤ → Option Name → ObjectCall
-  connects : Space → Option Name → Bool → ObjectCall  -- and whether anybody listens at the name that it asks for
+  connects : Space → Option Name → Hearing → ObjectCall  -- and who hears it at the name that it asks for
   sets_time : Bool → ℕ → ℕ → ObjectCall
   asks_time : ObjectCall
 
--- the name that an object has, as long as it lives
+-- the name that an object has and keeps from others: of a connection its first end's, until that closes
 abbrev pub name_in : Object → Option Name
 name_in (idle i) = i.name
 name_in (listener l) = Some l.name
+name_in (pair p) = if p.first_end.is_closed then None else p.first_end.name
 name_in x = None
 
 abbrev pub has_name : Name → Option Object → Bool
@@ -246,14 +248,24 @@ abbrev pub listens_at : Name → Option Object → Bool
 listens_at name (Some (listener l)) = same_name l.name name
 listens_at name x = false
 
--- somebody listens at the name by which a call connects
-abbrev pub is_heard : List (Option Object) → Call → Bool
-is_heard objects (Connect fd name) = list_any (listens_at name) objects
-is_heard objects call = false
+-- who hears at an object
+abbrev pub heard_by : Option Object → Hearing
+heard_by (Some (listener l)) = hearing_at l
+heard_by x = Nobody
+
+-- and at a name: who listens there first, if anybody does
+abbrev pub hearing_in : List (Option Object) → Name → Hearing
+hearing_in [] name = Nobody
+hearing_in (x ∷ xs) name = if listens_at name x then heard_by x else hearing_in xs name
+
+-- who hears a call by the name by which it connects
+abbrev pub hearing : List (Option Object) → Call → Hearing
+hearing objects (Connect fd name) = hearing_in objects name
+hearing objects call = Nobody
 
 -- The descriptor on whose object a call is, and what it asks of that, with the name that was found free for it, and
--- whether it is heard. Any other call has neither.
-abbrev pub object_call : Option Name → Bool → Call → Option (Fd × ObjectCall)
+-- who hears it. Any other call has neither.
+abbrev pub object_call : Option Name → Hearing → Call → Option (Fd × ObjectCall)
 object_call found heard (Read fd n) = Some (fd, reads n)
 object_call found heard (Write fd bytes) = Some (fd, writes bytes)
 object_call found heard (Peek fd n) = Some (fd, peeks n)
@@ -269,7 +281,7 @@ object_call found heard call = None
 
 -- the same, beside these objects
 abbrev pub asks : List (Option Object) → Call → Option (Fd × ObjectCall)
-asks objects call = object_call (found_for (is_taken objects) call) (is_heard objects call) call
+asks objects call = object_call (found_for (is_taken objects) call) (hearing objects call) call
 
 -- the refusals of a call on an end of an object, in order
 abbrev pub object_refusals : Object → End → ℕ → ObjectCall → List (Bool × Errno)

@@ -3,9 +3,11 @@ use Rattle.std.specs.Prelude.{Bool, List, None, Option, Some, [], false, if◌th
 use Rattle.std.specs.Prelude.{◌&&◌, ◌++◌, ◌||◌, ◌∷◌}
 use Rattle.ep_base.specs.declared.answer.Answer.TheVariants.{Bytes, Connecting, Done, Failed, Named, Num}
 use Rattle.ep_base.specs.declared.errno.Errno.{Errno}
-use Rattle.ep_base.specs.declared.errno.Errno.TheVariants.{Eaddrinuse, Eaddrnotavail, Eafnosupport, Econnaborted, Econnrefused, Einval, Enotconn, Epipe}
+use Rattle.ep_base.specs.declared.errno.Errno.TheVariants.{Eaddrinuse, Eaddrnotavail, Eafnosupport, Eagain, Econnaborted, Econnrefused, Einval, Enotconn, Epipe}
 use Rattle.ep_base.specs.declared.socket.Family.{Family}
 use Rattle.ep_base.specs.declared.socket.Family.TheVariants as families
+use Rattle.ep_base.specs.declared.socket.Hearing.{Hearing}
+use Rattle.ep_base.specs.declared.socket.Hearing.TheVariants.{Full, Nobody}
 use Rattle.ep_base.specs.declared.socket.Name.{Name}
 use Rattle.ep_base.specs.declared.socket.Space.{Space}
 use Rattle.ep_machine.specs.Bits.{ERR, HUP, IN, OUT, RDHUP, nothing, raises, union, when}
@@ -87,16 +89,27 @@ abbrev pub name_or : Option Name → Option Name → Option Name
 name_or (Some name) found = Some name
 name_or None found = found
 
--- Nobody listens: of Unix it is told at once. Where somebody listens nobody gets through yet, and that is refused.
-abbrev pub connect_refusals_of : Family → Idle → Space → Option Name → Bool → List (Bool × Errno)
-connect_refusals_of families.Unix x space found heard =
-    family_refusals families.Unix space ++ (not heard, Econnrefused) ∷ (true, Einval) ∷ []
+abbrev pub is_nobody : Hearing → Bool
+is_nobody Nobody = true
+is_nobody heard = false
+
+abbrev pub is_full : Hearing → Bool
+is_full Full = true
+is_full heard = false
+
+-- Nobody listens, or as many wait there as may: of Unix it is told at once, in this order, before all but the family.
+abbrev pub unheard_refusals : Space → Hearing → List (Bool × Errno)
+unheard_refusals space heard = family_refusals families.Unix space ++ (is_nobody heard, Econnrefused) ∷ (is_full heard, Eagain) ∷ []
+
+-- Where somebody listens nobody gets through yet, and that is refused.
+abbrev pub connect_refusals_of : Family → Idle → Space → Option Name → Hearing → List (Bool × Errno)
+connect_refusals_of families.Unix x space found heard = unheard_refusals space heard ++ (true, Einval) ∷ []
 connect_refusals_of families.Tcp x space found heard =
     (not x.has_failed && not (fits_family families.Tcp space), Eafnosupport)
     ∷ (not x.has_failed && is_none (name_or x.name found), Eaddrnotavail)
-    ∷ (not x.has_failed && heard, Einval) ∷ []
+    ∷ (not x.has_failed && not (is_nobody heard), Einval) ∷ []
 
-abbrev pub idle_connect_refusals : Idle → Space → Option Name → Bool → List (Bool × Errno)
+abbrev pub idle_connect_refusals : Idle → Space → Option Name → Hearing → List (Bool × Errno)
 idle_connect_refusals x space found heard = connect_refusals_of x.family x space found heard
 
 -- What it does to the socket itself. TCP has failed when the call returns, tells so once, and then the socket is fresh

@@ -10,6 +10,7 @@ use Rattle.ep_base.specs.declared.object.End.{End}
 use Rattle.ep_base.specs.declared.object.Raised.{Raised}
 use Rattle.ep_base.specs.declared.answer.Answer.{Answer}
 use Rattle.ep_base.specs.declared.socket.How.{How}
+use Rattle.ep_base.specs.declared.socket.Hearing.{Hearing}
 use Rattle.ep_base.specs.declared.socket.Name.{Name}
 use Rattle.ep_base.specs.declared.socket.Space.{Space}
 use Rattle.ep_counters.specs.Law.{CounterReadLaw, CounterWriteLaw, NextTellsAdvance, TimerAdvanceLaw, TimerReadLaw, TimerSettimeLaw}
@@ -134,7 +135,7 @@ listen_law backlog found now (idle i) = listens_law now i backlog (name_or i.nam
 listen_law backlog found now (listener l) = λ e before after. unchanged (listener_present l) (at_end nothing e)
 listen_law backlog found now x = stays now x nothing
 
-connect_law : (space : Space) (found : Option Name) (heard : Bool) (now : ℕ) → CallLaw (λ x. of_socket x (connect_refusals x space found heard)) (λ x. connect x found) now
+connect_law : (space : Space) (found : Option Name) (heard : Hearing) (now : ℕ) → CallLaw (λ x. of_socket x (connect_refusals x space found heard)) (λ x. connect x found) now
 connect_law space found heard now (pair p) = kept_law now (pair p) Done (first (of_socket (pair p) (connect_refusals (pair p) space found heard)))
 connect_law space found heard now (idle i) = idle_law now i (idle_connect_refusals i space found heard) (idle_connect i found) (connect_raises i found)
 connect_law space found heard now (listener l) = kept_law now (listener l) Done (first (of_socket (listener l) (connect_refusals (listener l) space found heard)))

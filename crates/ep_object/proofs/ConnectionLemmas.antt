@@ -8,6 +8,7 @@ use Rattle.ep_object.specs.Connecting.{IsIdle, IsListener, connection}
 use Rattle.ep_base.specs.declared.object.End.{End}
 use Rattle.ep_base.specs.declared.object.End.TheVariants.{First, Second}
 use Rattle.ep_object.specs.Law.{is_first, object_has}
+use Rattle.ep_base.specs.declared.socket.Hearing.{Hearing}
 use Rattle.ep_base.specs.declared.socket.Name.{Name}
 use Rattle.ep_machine.specs.Sockets.{is_tcp}
 use Rattle.ep_object.proofs.BitLemmas.{Covers, to_bits, no_bit, covers_self}
@@ -19,14 +20,13 @@ use Rattle.ep_object.proofs.StayLemmas.{when_stays}
 use Rattle.ep_object.proofs.OwnEndLemmas.{Shows}
 use Rattle.ep_machine.specs.Files.{Files}
 use Rattle.ep_base.specs.declared.errno.Errno.{Errno}
-use Rattle.ep_base.specs.declared.errno.Errno.TheVariants.{Econnrefused, Einval, Enotsock}
+use Rattle.ep_base.specs.declared.errno.Errno.TheVariants.{Einval, Enotsock}
 use Rattle.ep_base.specs.declared.socket.Family.TheVariants.{Tcp, Unix}
 use Rattle.ep_machine.specs.Effect.{first}
 use Rattle.std.proofs.lemmas.Option.{none-some}
 use Rattle.ep_base.specs.declared.socket.Family.{Family}
 use Rattle.ep_base.specs.declared.socket.Space.{Space}
-use Rattle.ep_machine.specs.Unconnected.{connect_refusals_of, Idle}
-use Rattle.ep_machine.specs.Names.{fits_family}
+use Rattle.ep_machine.specs.Unconnected.{connect_refusals_of, Idle, unheard_refusals}
 use Rattle.ep_machine.specs.Objects.{of_socket, connect_refusals, is_socket}
 use Rattle.ep_machine.specs.State.{Change}
 use Rattle.ep_machine.specs.Step.{join_change}
@@ -205,14 +205,14 @@ pending_listener plain f k h = cc
 pending_listener x f k h = cc
 
 -- A connect of Unix that isn't refused. Nobody gets through yet, so there is none.
-never_none : (a b : Bool) (x y z : Errno) → first ((a, x) ∷ (b, y) ∷ (true, z) ∷ []) ≡ None → ⊥
-never_none true b x y z h = none-some x (sym h)
-never_none false true x y z h = none-some y (sym h)
-never_none false false x y z h = none-some z (sym h)
+never_none : (xs : List (Bool × Errno)) (e : Errno) → first (xs ++ (true, e) ∷ []) ≡ None → ⊥
+never_none [] e h = none-some e (sym h)
+never_none ((true, x) ∷ xs) e h = none-some x (sym h)
+never_none ((false, x) ∷ xs) e h = never_none xs e h
 
-unix_refused : (family : Family) (i : Idle) (space : Space) (found : Option Name) (heard : Bool) → is_tcp family ≡ false → first (connect_refusals_of family i space found heard) ≡ None → ⊥
+unix_refused : (family : Family) (i : Idle) (space : Space) (found : Option Name) (heard : Hearing) → is_tcp family ≡ false → first (connect_refusals_of family i space found heard) ≡ None → ⊥
 unix_refused Tcp i space found heard unix h = false≢true (sym unix)
-unix_refused Unix i space found heard unix h = never_none (not (fits_family Unix space)) (not heard) Einval Econnrefused Einval h
+unix_refused Unix i space found heard unix h = never_none (unheard_refusals space heard) Einval h
 
 past_test : (b : Bool) (e : Errno) (rest : List (Bool × Errno)) → first ((b, e) ∷ rest) ≡ None → first rest ≡ None
 past_test true e rest h = absurd (none-some e (sym h))
@@ -228,7 +228,7 @@ left_idle (idle j) found i h = (j, refl, sym (ap family_in h) ∙ by_connect j (
 left_idle plain found i h = cc
 left_idle x found i h = cc
 
-pub none_connects : (x : Object) (space : Space) (found : Option Name) (heard : Bool) (i : Idle) → IsIdle (connect x found).1 i → is_tcp i.family ≡ false → first (of_socket x (connect_refusals x space found heard)) ≡ None → ⊥
+pub none_connects : (x : Object) (space : Space) (found : Option Name) (heard : Hearing) (i : Idle) → IsIdle (connect x found).1 i → is_tcp i.family ≡ false → first (of_socket x (connect_refusals x space found heard)) ≡ None → ⊥
 none_connects x space found heard i is unix h =
     let was = left_idle x found i is in
     let tests = past_test (not (is_socket x)) Enotsock (connect_refusals x space found heard) h in

@@ -11,6 +11,7 @@ pub mod OwnEndLemmas
 mod PairEndLemmas
 pub mod PendingLemmas
 pub mod RealLemmas
+pub mod StandingLemmas
 pub mod StayLemmas
 pub mod TimerLemmas
 mod WrapLemmas

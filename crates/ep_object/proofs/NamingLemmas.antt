@@ -1,35 +1,46 @@
--- Only a bind and a connect give a name, and only a socket without a connection gets one. No close takes it.
-use Rattle.std.proofs.Common.{◌≡◌, ◌==◌, ◌∙◌, None, Option, Some, ap, false, refl, sym, ℕ, ℤ}
+-- Only a bind and a connect give a name, and only a socket without a connection gets one. A close keeps it or frees it.
+use Rattle.std.proofs.Common.{◌≡◌, ◌==◌, ◌∙◌, ◌⊎◌, Bool, None, Option, Some, ap, false, if◌then◌else◌, inl, inr, refl, sym, true, ℕ, ℤ}
 use Rattle.ep_base.specs.declared.errno.Errno.{Errno}
+use Rattle.ep_base.specs.declared.errno.Errno.TheVariants.{Econnreset}
 use Rattle.ep_base.specs.declared.object.End.{End}
+use Rattle.ep_base.specs.declared.object.End.TheVariants.{First, Second}
 use Rattle.ep_base.specs.declared.socket.Name.{Name}
 use Rattle.ep_machine.specs.Effect.{Effect, attempt, first, unless}
-use Rattle.ep_machine.specs.Objects.{Object, ObjectCall, listen, listens, asks_name, asks_time, close_end, idle, name_in, object_effect, object_refusals, peeks, plain, reads, sets_time, shuts_down, takes_error, writes, is_idle, listener}
+use Rattle.ep_machine.specs.Objects.{Object, ObjectCall, listen, listens, asks_name, asks_time, close_end, idle, name_in, object_effect, object_refusals, pair, peeks, plain, reads, sets_time, shuts_down, takes_error, writes, is_idle, listener}
+use Rattle.ep_machine.specs.Sockets.{Socket, loses}
 use Rattle.ep_machine.specs.Unconnected.{Idle}
 use Rattle.ep_object.proofs.IdleLemmas.{by_read, by_write}
 use Rattle.ep_object.proofs.KindLemmas.{call_keeps_kind}
+use Rattle.ep_object.proofs.StandingLemmas.{Standing, call_keeps_standing, standing}
 use Rattle.ep_object.specs.Kinds.{kind_number}
 use Rattle.ep_object.specs.Naming.{Gains, NamesNobody, called}
 use Rattle.ep_base.specs.declared.call.Call.{Call}
 use Rattle.ep_base.specs.declared.call.Call.TheVariants.{Read}
 use Rattle.ep_machine.specs.Listening.{idle_listen_refusals, Listener}
 use Rattle.ep_object.specs.Asked.{asked_in, plain_call}
+use Rattle.ep_stream.proofs.PairClosed.{by_close}
 
 after : (refusal : Option Errno) (x : Object) (f : Effect Object) → name_in f.1 ≡ name_in x → name_in (unless refusal x f).1 ≡ name_in x
 after None x f h = h
 after (Some e) x f h = refl
 
-nameless : (x : Object) → (kind_number x == 6) ≡ false → name_in x ≡ None
-nameless (idle i) h = cc
-nameless (listener l) h = cc
-nameless x h = refl
+-- what is no socket without a connection and no listener has the name that a connection has, or none
+abbrev name_by : Option Standing → Option Name
+name_by None = None
+name_by (Some s) = if s.first_is_closed then None else s.name
 
--- what is no socket without a connection has none
+named_as : (x : Object) → (kind_number x == 6) ≡ false → name_in x ≡ name_by (standing x)
+named_as (idle i) h = cc
+named_as (listener l) h = cc
+named_as (pair p) h = refl
+named_as x h = refl
+
+-- no call changes that
 of_another : (x : Object) (e : End) (now : ℕ) (asked : ObjectCall) → (kind_number x == 6) ≡ false → name_in (called x e now asked) ≡ name_in x
 of_another x e now asked h =
     let y = (object_effect x e now asked).1 in
     after (first (object_refusals x e now asked)) x (object_effect x e now asked)
-    (nameless y (ap (λ (k : ℕ). k == 6) (call_keeps_kind x e now asked) ∙ h) ∙ sym (nameless x h))
+    (named_as y (ap (λ (k : ℕ). k == 6) (call_keeps_kind x e now asked) ∙ h) ∙ (ap name_by (call_keeps_standing x e now asked) ∙ sym (named_as x h)))
 
 -- a listener keeps its own
 listener_keeps : (l : Listener) (e : End) (now : ℕ) (asked : ObjectCall) → name_in (object_effect (listener l) e now asked).1 ≡ Some l.name
@@ -73,6 +84,20 @@ pub plain_names_nobody : (call : Call) → NamesNobody (asked_in (plain_call cal
 plain_names_nobody (Read fd n) = tt
 plain_names_nobody call = tt
 
-pub close_keeps_name : (x : Object) (e : End) → name_in (close_end x e).0 ≡ name_in x
-close_keeps_name plain e = refl
-close_keeps_name x e = refl
+-- A close keeps the name of what it closes, or frees it.
+abbrev KeepsOrFrees : Option Name → Option Name → Type 0
+KeepsOrFrees was now = (now ≡ was) ⊎ (now ≡ None)
+
+either_keeps : (b : Bool) (was : Option Name) (x y : Socket) → KeepsOrFrees was (if x.is_closed then None else x.name) → KeepsOrFrees was (if y.is_closed then None else y.name)
+    → KeepsOrFrees was (let z = if b then x else y in if z.is_closed then None else z.name)
+either_keeps true was x y f g = f
+either_keeps false was x y f g = g
+
+pub close_keeps_or_frees : (x : Object) (e : End) → KeepsOrFrees (name_in x) (name_in (close_end x e).0)
+close_keeps_or_frees (pair p) First =
+    by_close (λ q. KeepsOrFrees (name_in (pair p)) (name_in (pair q))) p First (inr refl) (inr refl) (inr refl) (inr refl) (inr refl)
+close_keeps_or_frees (pair p) Second =
+    by_close (λ q. KeepsOrFrees (name_in (pair p)) (name_in (pair q))) p Second (inr refl) (inl refl) (inl refl) (inl refl)
+    (either_keeps (loses p Second) (name_in (pair p)) (record p.first_end { error = Some Econnreset }) p.first_end (inl refl) (inl refl))
+close_keeps_or_frees plain e = inl refl
+close_keeps_or_frees x e = inl refl

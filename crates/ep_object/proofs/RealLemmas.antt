@@ -9,6 +9,7 @@ use Rattle.ep_base.specs.declared.object.End.TheVariants.{First, Second}
 use Rattle.ep_base.specs.declared.socket.Family.{Family}
 use Rattle.ep_base.specs.declared.socket.Family.TheVariants.{Tcp, Unix}
 use Rattle.ep_base.specs.declared.socket.How.{How}
+use Rattle.ep_base.specs.declared.socket.Hearing.{Hearing}
 use Rattle.ep_base.specs.declared.socket.Name.{Name}
 use Rattle.ep_base.specs.declared.socket.Space.{Space}
 use Rattle.ep_machine.specs.Effect.{Effect, attempt, first, unless}
@@ -84,16 +85,16 @@ listen_refusals_real (pair p) found = (refl, tt)
 listen_refusals_real (idle i) found = (refl, (refl, (refl, tt)))
 listen_refusals_real x found = tt
 
-idle_connect_real : (i : Idle) (family : Family) (space : Space) (found : Option Name) (heard : Bool) → AreReal (connect_refusals_of family i space found heard)
+idle_connect_real : (i : Idle) (family : Family) (space : Space) (found : Option Name) (heard : Hearing) → AreReal (connect_refusals_of family i space found heard)
 idle_connect_real i Tcp space found heard = (refl, (refl, (refl, tt)))
-idle_connect_real i Unix space found heard = (refl, (refl, (refl, tt)))
+idle_connect_real i Unix space found heard = (refl, (refl, (refl, (refl, tt))))
 
-listener_connect_real : (family : Family) (space : Space) (heard : Bool) → AreReal (listener_connect_refusals family space heard)
+listener_connect_real : (family : Family) (space : Space) (heard : Hearing) → AreReal (listener_connect_refusals family space heard)
 listener_connect_real Tcp space heard = (refl, tt)
-listener_connect_real Unix space heard = (refl, (refl, (refl, tt)))
+listener_connect_real Unix space heard = (refl, (refl, (refl, (refl, tt))))
 
-connect_refusals_real : (x : Object) (space : Space) (found : Option Name) (heard : Bool) → AreReal (connect_refusals x space found heard)
-connect_refusals_real (pair p) space found heard = (refl, (refl, (refl, tt)))
+connect_refusals_real : (x : Object) (space : Space) (found : Option Name) (heard : Hearing) → AreReal (connect_refusals x space found heard)
+connect_refusals_real (pair p) space found heard = (refl, (refl, (refl, (refl, tt))))
 connect_refusals_real (idle i) space found heard = idle_connect_real i i.family space found heard
 connect_refusals_real (listener l) space found heard = listener_connect_real l.family space heard
 connect_refusals_real x space found heard = tt

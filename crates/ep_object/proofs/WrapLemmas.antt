@@ -1,5 +1,5 @@
 -- What a call makes of a pipe or of a pair it makes of the object that is one.
-use Rattle.std.proofs.Common.{Bool, IfOk, List, None, Option, Result, Some, ap, refl, sym, ◌∙◌, ◌≡◌}
+use Rattle.std.proofs.Common.{Bool, Err, IfOk, List, None, Ok, Option, Result, Some, ap, refl, sym, ◌∙◌, ◌≡◌, ℕ}
 use Rattle.std.proofs.lemmas.Result.{IfOk-weaker}
 use Rattle.ep_base.specs.declared.answer.Answer.{Answer}
 use Rattle.ep_base.specs.declared.answer.Answer.TheVariants.{Refused}
@@ -27,3 +27,8 @@ module _ {X : Type 0} (wrap : X → Object) (x y : X) (f : Effect X) where
 pub refused_by : (x : Object) (refusals : List (Bool × Errno)) (f : Effect Object) (e : Errno) (answer : Answer) (raised : Raised)
     → first refusals ≡ Some e → answer ≡ Refused e → raised ≡ nothing → (answer, x, raised) ≡ attempt refusals x f
 refused_by x refusals f e answer raised is answers raises = rw (answers, raises) (sym (ap (λ (o : Option Errno). unless o x f) is))
+
+-- what is answered at any moment
+pub at_any_moment : {A E : Type 0} (P : A → Type 0) (r : Result A E) → IfOk r P → IfOk r (λ x. (now : ℕ) → P x)
+at_any_moment P (Ok x) h = λ now. h
+at_any_moment P (Err e) h = h

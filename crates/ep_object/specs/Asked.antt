@@ -3,6 +3,8 @@ use Rattle.std.specs.Prelude.{Bool, None, Option, Some, false, if◌then◌else�
 use Rattle.ep_base.specs.declared.call.Call.{Call}
 use Rattle.ep_base.specs.declared.call.Call.TheVariants.{Bind, Connect, Listen}
 use Rattle.ep_base.specs.declared.ids.Fd.{Fd}
+use Rattle.ep_base.specs.declared.socket.Hearing.{Hearing}
+use Rattle.ep_base.specs.declared.socket.Hearing.TheVariants.{Nobody}
 use Rattle.ep_base.specs.declared.socket.Name.{Name}
 use Rattle.ep_machine.specs.Objects.{ObjectCall, asks_name, asks_time, binds, connects, listens, object_call, peeks, shuts_down, takes_error}
 
@@ -14,11 +16,11 @@ is_naming (Connect fd name) = true
 is_naming call = false
 
 -- What such a call asks, and what any other call on an object does: of that it plays no part which names are taken.
-abbrev pub naming_call : Option Name → Bool → Call → Option (Fd × ObjectCall)
+abbrev pub naming_call : Option Name → Hearing → Call → Option (Fd × ObjectCall)
 naming_call found heard call = if is_naming call then object_call found heard call else None
 
 abbrev pub plain_call : Call → Option (Fd × ObjectCall)
-plain_call call = if is_naming call then None else object_call None false call
+plain_call call = if is_naming call then None else object_call None Nobody call
 
 -- what a call on an object asks of it; any other call stands for a question that nobody puts
 abbrev pub asked_in : Option (Fd × ObjectCall) → ObjectCall

@@ -6,7 +6,7 @@ use Rattle.ep_object.specs.declared.object.Kind.TheVariants.{Counter, Idle, Inst
 abbrev pub content_of : Kind → Object
 content_of (Plain alloc) = plain
 content_of (Pipe p) = pipe p
-content_of (Pair p) = pair p
+content_of (Pair p) = pair p.value
 content_of (Idle i) = idle i
 content_of (Listener l) = listener l
 content_of (Counter c) = counter c

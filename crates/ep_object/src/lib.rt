@@ -1,6 +1,7 @@
 //! Objects, of which an open file description is one end.
 #![tactic(auto)]
 
+mod connections;
 mod law;
 mod listener;
 mod object;

@@ -1,27 +1,31 @@
 //! Sockets that listen.
-ghost use Rattle.std.specs.Prelude.{◌≡◌, [], Some};
+ghost use Rattle.std.specs.Prelude.{◌≡◌, ◌++◌, ◌∷◌, [], OnErr, OnOk, Some, slice_get};
+ghost use Rattle.std.specs.List.{remove};
 ghost use Rattle.ep_base.specs.declared.answer.Answer.TheVariants.{Bytes, Num};
 ghost use Rattle.ep_machine.specs.Bits.{nothing};
 ghost use Rattle.ep_machine.specs.Effect.{attempt, first};
-ghost use Rattle.ep_machine.specs.Listening.{backlog_of, listener_bind_refusals, listener_connect_refusals, listener_listen, listener_present, listener_read_refusals, listener_write_refusals, new_listener};
-ghost use Rattle.ep_machine.specs.Objects.{listener};
+ghost use Rattle.ep_machine.specs.Listening.{backlog_of, hearing_at, listener_bind_refusals, listener_connect_refusals};
+ghost use Rattle.ep_machine.specs.Listening.{listener_listen, listener_present, listener_read_refusals};
+ghost use Rattle.ep_machine.specs.Listening.{listener_write_refusals, new_listener};
 
 use crate::unconnected::{misfit_or, unheard_or, unread, unwritten};
-use ep_base::{Answer, Buffer, Bytes, Errno, Family, Mask, Name, Space};
-use std::alloc::Global;
+use ep_base::{Answer, Buffer, Bytes, Errno, Family, Hearing, Mask, Name, Space};
+use std::alloc::{AllocError, Global};
+use std::collections::VecDeque;
 use std::marker::Model;
 
 /// The greatest backlog, as of Linux's net.core.somaxconn.
 const GREATEST_BACKLOG: u32 = 4096;
 
-/// A socket of a family that listens at its name, and how many connections may wait there, less one. None waits yet.
-/// With it goes the allocator of the answers that it gives.
+/// A socket of a family that listens at its name, how many connections may wait there, less one, and the numbers of
+/// those that came and weren't accepted. With it goes the allocator of the answers that it gives.
 #[derive(Drop)]
 pub(crate) struct Listener {
     alloc: Global,
     family: Family,
     name: Name,
     backlog: u32,
+    pending: VecDeque<u64>,
 }
 
 impl Model for Listener {
@@ -29,13 +33,11 @@ impl Model for Listener {
 
     ghost Value = { Content };
 
-    ghost use Rattle.std.specs.Prelude.{[]};
-
     ghost view = { λ listener. record {
       family = listener.family;
       name = listener.name;
       backlog = listener.backlog;
-      pending = [];
+      pending = listener.pending.items;
     } };
 }
 
@@ -59,6 +61,7 @@ impl Listener {
             family,
             name,
             backlog: backlog_of(backlog),
+            pending: VecDeque::new(alloc),
         }
     }
 
@@ -69,19 +72,51 @@ impl Listener {
         self.name
     }
 
-    /// What always holds: no connection waits here.
-    pub(crate) fn is_quiet(&self)
-        ensures { self.now.pending ≡ [] }
-    {
-        let _ = &self.backlog;
-    }
-
-    /// The bits that hold: IN once a connection waits.
+    /// The bits that hold: IN while a connection waits.
     pub(crate) fn present(&self) -> Mask
         ensures { result.0 ≡ listener_present self.now }
     {
-        self.is_quiet();
-        Mask(0)
+        if self.pending.is_empty() {
+            Mask(0)
+        } else {
+            Mask::IN
+        }
+    }
+
+    /// Whether one more connection may wait here: as many as the backlog and one do.
+    pub(crate) fn hearing(&self) -> Hearing
+        ensures { result ≡ hearing_at self.now }
+    {
+        if self.pending.len() > self.backlog as usize {
+            Hearing::Full
+        } else {
+            Hearing::Somebody
+        }
+    }
+
+    /// The connection of this number comes, and waits behind all others. An `AllocError` leaves the listener.
+    pub(crate) fn push(&mut self, number: u64) -> Result<(), AllocError>
+        ensures ok { OnOk result
+            (self.new ≡ record self.old { pending = self.old.pending ++ number ∷ [] }) }
+        ensures err { OnErr result (self.new ≡ self.old) }
+    {
+        self.pending.reserve(1)?;
+        self.pending.push_back_reserved(number);
+        Ok(())
+    }
+
+    /// The number of the connection before which so many others came.
+    pub(crate) fn nth(&self, index: usize) -> Option<u64>
+        ensures { result ≡ slice_get self.now.pending index }
+    {
+        self.pending.get(index).copied()
+    }
+
+    /// The connection before which so many others came waits here no more.
+    pub(crate) fn remove(&mut self, index: usize)
+        ensures { self.new ≡ record self.old { pending = remove self.old.pending index } }
+    {
+        self.pending.remove(index);
     }
 
     /// listen(2) once more.
@@ -120,8 +155,8 @@ impl Listener {
         misfit_or(self.family, space, Errno::Einval)
     }
 
-    /// How connect(2) by a name of this space is refused, where somebody listens at that name if `heard`.
-    pub(crate) fn refuses_connect(&self, space: Space, heard: bool) -> Errno
+    /// How connect(2) by a name of this space is refused, where `heard` tells who listens at that name.
+    pub(crate) fn refuses_connect(&self, space: Space, heard: Hearing) -> Errno
         ensures { first (listener_connect_refusals self.now.family space heard) ≡ Some result }
     {
         match self.family {

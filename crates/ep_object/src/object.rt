@@ -16,13 +16,14 @@ ghost use Rattle.ep_object.specs.Asked.{IsOfSocket, found_in};
 ghost use Rattle.ep_object.specs.Memory.{asked_of, object_waiting};
 ghost use Rattle.ep_object.specs.Naming.{Gains, called};
 ghost use Rattle.ep_object.specs.Next.{IsNextMoment};
-ghost use Rattle.ep_object.specs.Quiet.{IsQuiet};
 
 use crate::listener::Listener;
 use crate::object_call::{NamingCall, ObjectCall};
 use crate::refusal::{NOTHING, refused};
 use crate::unconnected::{Idle, misfit_or, unheard_or};
-use ep_base::{Answer, Buffer, Bytes, Call, Errno, Family, How, Mask, Moment, Name, Space, Span};
+use ep_base::{
+    Answer, Buffer, Bytes, Call, Errno, Family, Hearing, How, Mask, Moment, Name, Space, Span,
+};
 use ep_counters::{EventFd, Timer};
 use ep_stream::{End, Pipe, Raised, SockPair};
 use std::alloc::{AllocError, Global};
@@ -30,11 +31,12 @@ use std::marker::Model;
 
 /// What an object is.
 #[derive(Drop)]
-enum Kind {
+pub(crate) enum Kind {
     /// A file that can't be polled, with the allocator of the answers that it gives.
     Plain(Global),
     Pipe(Pipe),
-    Pair(SockPair),
+    /// In a box, so that other objects are smaller.
+    Pair(Box<SockPair>),
     /// A socket without a connection that doesn't listen.
     Idle(Idle),
     Listener(Listener),
@@ -48,7 +50,7 @@ enum Kind {
 /// any other object has the first alone.
 #[derive(Drop)]
 pub struct Object {
-    kind: Kind,
+    pub(crate) kind: Kind,
 }
 
 impl Model for Object {
@@ -87,7 +89,7 @@ impl Object {
         ensures { IfOk result (λ object. object ≡ pair (new_pair capacity)) }
     {
         Ok(Object {
-            kind: Kind::Pair(SockPair::new(alloc, capacity)?),
+            kind: Kind::Pair(Box::new(alloc, SockPair::new(alloc, capacity)?)?),
         })
     }
 
@@ -141,14 +143,15 @@ impl Object {
         matches!(self.kind, Kind::Instance)
     }
 
-    /// The name that it has and keeps from others as long as it lives: of a socket without a connection, once it is
-    /// bound or was given one. A listener has one.
+    /// The name that it has and keeps from others: of a socket without a connection, once it is bound or was given one.
+    /// A listener has one. Of a connection it is the one of its first end, until that closes.
     pub fn name(&self) -> Option<Name>
         ensures { result ≡ name_in self.now }
     {
         match &self.kind {
             Kind::Idle(idle) => idle.name(),
             Kind::Listener(listener) => Some(listener.name()),
+            Kind::Pair(pair) => pair.kept_name(),
             _ => None,
         }
     }
@@ -185,19 +188,8 @@ impl Object {
         }
     }
 
-    /// What always holds: it is no connection that waits to be accepted, and none waits at it.
-    pub fn is_quiet(&self)
-        ensures { IsQuiet self.now }
-    {
-        match &self.kind {
-            Kind::Pair(pair) => pair.is_accepted(),
-            Kind::Listener(listener) => listener.is_quiet(),
-            _ => {}
-        }
-    }
-
     /// The bits that hold at this end at the moment `now`, as poll(2) would report them. None hold of
-    /// a plain file or a listener, nor of an instance, which is judged by its registrations.
+    /// a plain file, nor of an instance, which is judged by its registrations.
     pub fn present(&self, end: End, now: Moment) -> Mask
         ensures { result.0 ≡ object_present self.now end now }
     {
@@ -277,9 +269,9 @@ impl Object {
     ///
     /// - read(2) and write(2): EINVAL of an instance, and for a write of a timer; else as the kind's
     ///   own type says. A plain file gives no bytes and takes all.
-    /// - recv(2) with MSG_PEEK, shutdown(2), SO_ERROR and names: ENOTSOCK of anything but a socket. A socket pair
-    ///   answers as its own type says, and has no name. A socket without a connection has ENOTCONN for a shutdown and
-    ///   a peer's name.
+    /// - recv(2) with MSG_PEEK, shutdown(2), SO_ERROR and names: ENOTSOCK of anything but a socket. A socket pair and a
+    ///   connection answer as their own type says. A socket without a connection has ENOTCONN for a shutdown and a
+    ///   peer's name.
     /// - timerfd_settime(2) and timerfd_gettime(2) answer the setting that the timer had: EINVAL of
     ///   anything but a timer, and for a `value` or `interval` above `LAST_MOMENT`.
     ///
@@ -366,7 +358,7 @@ impl Object {
             Call::Peek { n, .. } => self.peek(end, n),
             Call::Shutdown { how, .. } => Ok(self.shutdown(end, how)),
             Call::TakeError { .. } => Ok(self.take_error(end)),
-            Call::SocketName { peer, .. } => Ok(self.named(peer)),
+            Call::SocketName { peer, .. } => Ok(self.named(end, peer)),
             _ => unreachable!(),
         }
     }
@@ -379,8 +371,8 @@ impl Object {
     /// - listen(2): EINVAL of a connection, of what failed to connect, and of a Unix socket without a name, EADDRINUSE
     ///   where no name was found.
     /// - connect(2): of a socket without a connection that doesn't listen as its own type says. Any other Unix socket
-    ///   has EINVAL by a name of TCP, ECONNREFUSED where nobody listens, and then EISCONN, a listener EINVAL. A TCP
-    ///   listener has EISCONN.
+    ///   has EINVAL by a name of TCP, ECONNREFUSED where nobody listens, EAGAIN where as many wait as may, and then
+    ///   EISCONN, a listener EINVAL. A TCP listener has EISCONN.
     pub fn apply_naming(&mut self, call: &NamingCall<'_>) -> (Answer, Raised)
         ensures { (end : End) (now : ℕ) → (result.0, self.new, result.1) ≡
             attempt (object_refusals self.old end now call.now) self.old (object_effect self.old end now call.now) }
@@ -433,13 +425,13 @@ impl Object {
         }
     }
 
-    /// getsockname(2), or getpeername(2) with `of_peer`, at either end.
-    fn named(&self, of_peer: bool) -> (Answer, Raised)
-        ensures { (end : End) → (result.0, self.now, result.1) ≡
+    /// getsockname(2), or getpeername(2) with `of_peer`, at this end.
+    fn named(&self, end: End, of_peer: bool) -> (Answer, Raised)
+        ensures { (result.0, self.now, result.1) ≡
             attempt (of_socket self.now (name_refusals self.now end of_peer)) self.now (name_of self.now end of_peer) }
     {
         match &self.kind {
-            Kind::Pair(pair) => (Answer::Named(pair.name()), NOTHING),
+            Kind::Pair(pair) => (Answer::Named(pair.name(end, of_peer)), NOTHING),
             Kind::Idle(_) | Kind::Listener(_) if of_peer => refused(Errno::Enotconn),
             Kind::Idle(idle) => (Answer::Named(idle.name()), NOTHING),
             Kind::Listener(listener) => (Answer::Named(Some(listener.name())), NOTHING),
@@ -482,9 +474,9 @@ impl Object {
         }
     }
 
-    /// connect(2) by a name of this space, where this one was found free, and somebody listens at the name that is
-    /// asked for if `heard`.
-    fn connect(&mut self, space: Space, found: Option<Name>, heard: bool) -> (Answer, Raised)
+    /// connect(2) by a name of this space, where this one was found free, and `heard` tells who listens at the name
+    /// that is asked for.
+    fn connect(&mut self, space: Space, found: Option<Name>, heard: Hearing) -> (Answer, Raised)
         ensures { (result.0, self.new, result.1) ≡
             attempt (of_socket self.old (connect_refusals self.old space found heard)) self.old (connect self.old found) }
     {

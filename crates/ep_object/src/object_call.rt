@@ -4,7 +4,7 @@ ghost use Rattle.ep_object.specs.Asked.{is_naming, naming_call, plain_call};
 ghost use Rattle.ep_object.specs.Memory.{asked_of, is_peek};
 ghost use Rattle.ep_object.specs.Naming.{NamesNobody};
 
-use ep_base::{Call, Fd, Name};
+use ep_base::{Call, Fd, Hearing, Name};
 use std::marker::Model;
 
 /// What a call asks of the object that its descriptor names, unless its socket may get a name by it (`NamingCall`): a
@@ -78,12 +78,12 @@ impl<'a> ObjectCall<'a> {
 }
 
 /// What a bind, a listen or a connect asks of the socket that its descriptor names, with the name that was found free
-/// for it, and whether anybody listens at the name by which it connects.
+/// for it, and who hears it at the name by which it connects.
 #[derive(Drop)]
 pub struct NamingCall<'a> {
     pub(crate) call: &'a Call,
     pub(crate) found: Option<Name>,
-    pub(crate) heard: bool,
+    pub(crate) heard: Hearing,
 }
 
 impl<'a> Model for NamingCall<'a> {
@@ -113,8 +113,8 @@ impl<'a> NamingCall<'a> {
     }
 
     /// The descriptor of a bind, a listen or a connect, and what that asks of its socket, where this name was found
-    /// free, and somebody listens at the name by which it connects if `heard`.
-    pub fn of(call: &'a Call, found: Option<Name>, heard: bool) -> (Fd, NamingCall<'a>)
+    /// free, and `heard` tells who hears it at the name by which it connects.
+    pub fn of(call: &'a Call, found: Option<Name>, heard: Hearing) -> (Fd, NamingCall<'a>)
         requires { is_naming call.now ≡ true }
         ensures { naming_call found heard call.now ≡ Some result }
     {

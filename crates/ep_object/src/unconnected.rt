@@ -1,19 +1,22 @@
 //! Sockets without a connection that don't listen.
 ghost use Rattle.std.specs.Prelude.{◌≡◌, ◌++◌, ◌∷◌, [], IfErr, IfOk, IfSome, None, Some, ℤ, false, not, true, unwrap_or};
 ghost use Rattle.ep_base.specs.declared.answer.Answer.TheVariants.{Failed};
-ghost use Rattle.ep_base.specs.declared.errno.Errno.TheVariants.{Econnaborted, Econnrefused};
+ghost use Rattle.ep_base.specs.declared.errno.Errno.TheVariants.{Econnaborted};
 ghost use Rattle.ep_base.specs.declared.socket.Family.TheVariants.{Tcp, Unix};
 ghost use Rattle.ep_machine.specs.Bits.{nothing};
 ghost use Rattle.ep_machine.specs.Effect.{attempt, first};
 ghost use Rattle.ep_machine.specs.Listening.{idle_listen_refusals};
 ghost use Rattle.ep_machine.specs.Objects.{idle, listen, listener, listening};
 ghost use Rattle.ep_machine.specs.Sockets.{is_tcp};
-ghost use Rattle.ep_machine.specs.Unconnected.{connect_refusals_of, family_refusals, idle_bind, idle_bind_refusals, idle_connect, idle_connect_refusals, idle_present, idle_read, idle_read_refusals, idle_take_error, idle_write, idle_write_refusals, name_or, new_idle, unread_error, unwritten_error};
+ghost use Rattle.ep_machine.specs.Unconnected.{connect_refusals_of, family_refusals, idle_bind, idle_bind_refusals};
+ghost use Rattle.ep_machine.specs.Unconnected.{idle_connect, idle_connect_refusals, idle_present, idle_read};
+ghost use Rattle.ep_machine.specs.Unconnected.{idle_read_refusals, idle_take_error, idle_write, idle_write_refusals};
+ghost use Rattle.ep_machine.specs.Unconnected.{is_nobody, name_or, new_idle, unheard_refusals, unread_error, unwritten_error};
 ghost use Rattle.ep_object.specs.Naming.{Gains, GainsName};
 
 use crate::listener::Listener;
 use crate::refusal::{NOTHING, refused};
-use ep_base::{Answer, Buffer, Bytes, Errno, Family, Mask, Name, Space};
+use ep_base::{Answer, Buffer, Bytes, Errno, Family, Hearing, Mask, Name, Space};
 use ep_stream::Raised;
 use std::alloc::Global;
 use std::marker::Model;
@@ -66,6 +69,11 @@ impl Idle {
             has_failed: false,
             error: None,
         }
+    }
+
+    /// The allocator of what it becomes.
+    pub(crate) fn allocator(&self) -> Global {
+        self.alloc
     }
 
     /// The name that it is bound to, or was given.
@@ -174,13 +182,13 @@ impl Idle {
         &self,
         space: Space,
         found: Option<Name>,
-        heard: bool,
+        heard: Hearing,
     ) -> Option<Name>
         ensures gains { GainsName self.now (attempt (idle_connect_refusals self.now space found heard) self.now
             (idle_connect self.now found)).1 result }
         ensures found { IfSome result (λ name. found ≡ Some name) }
     {
-        if heard || !is_tcp(self.family) || misfit(self.family, space).is_some() {
+        if !is_tcp(self.family) || misfit(self.family, space).is_some() || is_somebody(heard) {
             return None;
         }
         if self.has_failed || self.name.is_some() {
@@ -220,15 +228,16 @@ impl Idle {
         }
     }
 
-    /// connect(2) by a name of this space, where this name was found free, and somebody listens at the name that is
-    /// asked for if `heard`: then it is refused. If nobody listens a Unix socket is refused. A TCP socket takes the
-    /// name if it has none, and has failed when the call returns, which raises all five bits; one that failed is told
-    /// its error, ECONNABORTED if that was taken, and is fresh again.
+    /// connect(2) by a name of this space, where this name was found free, and `heard` tells who listens at the name
+    /// that is asked for. A Unix socket is refused: ECONNREFUSED if nobody does, EAGAIN if as many wait there as may,
+    /// else EINVAL. A TCP socket that somebody hears is refused, too. Else it takes the name if it has none, and has
+    /// failed when the call returns, which raises all five bits; one that failed is told its error, ECONNABORTED if
+    /// that was taken, and is fresh again.
     pub(crate) fn connect(
         &mut self,
         space: Space,
         found: Option<Name>,
-        heard: bool,
+        heard: Hearing,
     ) -> (Answer, Raised)
         ensures { (result.0, self.new, result.1) ≡
             attempt (idle_connect_refusals self.old space found heard) self.old (idle_connect self.old found) }
@@ -258,7 +267,7 @@ impl Idle {
         &mut self,
         space: Space,
         found: Option<Name>,
-        heard: bool,
+        heard: Hearing,
     ) -> (Answer, Raised)
         requires tcp { self.old.family ≡ Tcp }
         requires fresh { self.old.has_failed ≡ false }
@@ -272,7 +281,7 @@ impl Idle {
         if name.is_none() {
             return refused(Errno::Eaddrnotavail);
         }
-        if heard {
+        if is_somebody(heard) {
             return refused(Errno::Einval);
         }
         self.name = name;
@@ -331,13 +340,25 @@ pub(crate) fn misfit_or(family: Family, space: Space, otherwise: Errno) -> Errno
     misfit(family, space).unwrap_or(otherwise)
 }
 
-/// How a connect of a Unix socket is refused: by a name of TCP, where nobody listens, and else so.
-pub(crate) fn unheard_or(space: Space, heard: bool, otherwise: Errno) -> Errno
-    ensures { first (family_refusals Unix space ++ (not heard, Econnrefused) ∷ (true, otherwise) ∷ []) ≡ Some result }
+/// How a connect of a Unix socket is refused: by a name of TCP, where nobody listens or as many wait there as may, and
+/// else so.
+pub(crate) fn unheard_or(space: Space, heard: Hearing, otherwise: Errno) -> Errno
+    ensures { first (unheard_refusals space heard ++ (true, otherwise) ∷ []) ≡ Some result }
 {
-    if heard {
-        misfit_or(Family::Unix, space, otherwise)
-    } else {
-        misfit_or(Family::Unix, space, Errno::Econnrefused)
+    let errno = match heard {
+        Hearing::Nobody => Errno::Econnrefused,
+        Hearing::Full => Errno::Eagain,
+        Hearing::Somebody => otherwise,
+    };
+    misfit_or(Family::Unix, space, errno)
+}
+
+/// Whether somebody listens, whether one more may wait there or not.
+fn is_somebody(heard: Hearing) -> bool
+    ensures { result ≡ not (is_nobody heard) }
+{
+    match heard {
+        Hearing::Nobody => false,
+        Hearing::Full | Hearing::Somebody => true,
     }
 }

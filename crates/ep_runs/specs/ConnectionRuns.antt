@@ -1,6 +1,6 @@
 -- Connections, worked out on the files that a run leaves, and by lists of records that are runs but for one clause: a
 -- connect to a listener is refused.
-use Rattle.std.specs.Prelude.{Bool, List, None, Option, Some, [], false, if◌then◌else◌, is_some, pos, unwrap_or, ℕ, ◌&&◌, ◌∷◌}
+use Rattle.std.specs.Prelude.{Bool, List, None, Option, Some, [], false, if◌then◌else◌, is_some, not, pos, unwrap_or, ℕ, ◌&&◌, ◌∷◌}
 use Rattle.ep_base.specs.Limits.{default_limits}
 use Rattle.ep_base.specs.Limits.{Limits}
 use Rattle.ep_base.specs.declared.answer.Answer.{Answer}
@@ -12,16 +12,17 @@ use Rattle.ep_base.specs.declared.errno.Errno.{Errno}
 use Rattle.ep_base.specs.declared.errno.Errno.TheVariants.{Eaddrinuse, Econnreset, Epipe}
 use Rattle.ep_base.specs.declared.record.Record.{Record}
 use Rattle.ep_base.specs.declared.socket.Family.TheVariants as families
+use Rattle.ep_base.specs.declared.socket.Hearing.{Hearing}
 use Rattle.ep_base.specs.declared.socket.Name.{Name}
 use Rattle.ep_base.specs.declared.socket.Space.TheVariants as spaces
 use Rattle.ep_machine.specs.Connections.{accept, first_waiting, join, pending_in, without_abandoned}
 use Rattle.ep_machine.specs.Files.{Files, content_at, object_of, object_under, side_of}
-use Rattle.ep_machine.specs.Objects.{is_heard, is_idle, object_present, plain}
+use Rattle.ep_machine.specs.Objects.{hearing_in, is_idle, object_present, plain}
 use Rattle.ep_machine.specs.Run.{checked, run}
 use Rattle.ep_machine.specs.State.{State, opening}
 use Rattle.ep_machine.specs.Step.{change, next_event, settled, step}
 use Rattle.ep_machine.specs.Tables.{close}
-use Rattle.ep_machine.specs.Unconnected.{new_idle}
+use Rattle.ep_machine.specs.Unconnected.{is_full, is_nobody, new_idle}
 use Rattle.ep_runs.specs.Records.{accept_call, add_call, answered, bind_call, close_call, connect_call, create_call, dup_call}
 use Rattle.ep_runs.specs.Records.{error_call, listen_call, name_at, read_call, refused, report, reporting, socket_call}
 use Rattle.ep_runs.specs.Records.{wait_call, write_call}
@@ -57,9 +58,12 @@ deserted = without_abandoned (close connected.0 1 (pos 3))
 abbrev pub shown : Files → ℕ → ℕ
 shown s d = object_present (unwrap_or (object_of s d) plain) (side_of s d) 0
 
--- Without the clause that refuses it, a connect of an idle socket that is heard is made.
+-- Without the clause that refuses it, a connect of an idle socket is made where one more may wait.
+abbrev pub is_somebody : Hearing → Bool
+is_somebody heard = not (is_nobody heard) && not (is_full heard)
+
 abbrev pub gets_through : State → Event → Bool
-gets_through s (CallOf p (Connect fd name)) = is_idle (object_under s.files p.0 fd.0) && is_heard s.files.objects (Connect fd name)
+gets_through s (CallOf p (Connect fd name)) = is_idle (object_under s.files p.0 fd.0) && is_somebody (hearing_in s.files.objects name)
 gets_through s event = false
 
 abbrev pub step_through : Limits → State → ℕ → Event → List ℕ → Option (Answer × State)

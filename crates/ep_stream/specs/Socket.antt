@@ -1,8 +1,8 @@
--- A socket pair as the abstract machine has it. socketpair(2) makes it, so nothing that is lost with an end is told,
--- and no end has a name.
-use Rattle.std.specs.Prelude.{Bool, None, true, false, ◌&&◌}
+-- A connection of Unix as the abstract machine has it: two sockets, and what is kept beside them.
+use Rattle.std.specs.Prelude.{Bool, true, ◌&&◌}
 use Rattle.ep_base.specs.declared.socket.Family.TheVariants.{Unix}
 use Rattle.ep_machine.specs.Sockets.{Socket as MachineSocket, SocketPair}
+use Rattle.ep_stream.specs.declared.sock_pair.SockPair.TheInside.{Inside}
 use Rattle.ep_stream.specs.declared.sock_pair.Socket.{Socket}
 
 abbrev pub socket_of : Bool → Socket → MachineSocket
@@ -13,19 +13,19 @@ socket_of is_reset s = record {
   is_reset = is_reset;
   is_closed = s.is_closed;
   error = s.error;
-  name = None;
+  name = s.name;
 }
 
 -- its connection is gone only once both ends are closed
-abbrev pub pair_of : Socket → Socket → SocketPair
-pair_of first second =
-    let is_reset = first.is_closed && second.is_closed in
+abbrev pub pair_of : Inside → SocketPair
+pair_of p =
+    let is_reset = p.first_end.is_closed && p.second_end.is_closed in
     record {
       family = Unix;
-      capacity = first.queue.capacity;
-      tells_loss = false;
+      capacity = p.first_end.queue.capacity;
+      tells_loss = p.tells_loss;
       is_confirmed = true;
-      is_accepted = true;
-      first_end = socket_of is_reset first;
-      second_end = socket_of is_reset second;
+      is_accepted = p.is_accepted;
+      first_end = socket_of is_reset p.first_end;
+      second_end = socket_of is_reset p.second_end;
     }

@@ -1,11 +1,17 @@
-//! Pairs of connected Unix stream sockets, as socketpair(2) makes them.
-ghost use Rattle.std.specs.Prelude.{◌≡◌, ◌≤◌, ◌-◌, ◌||◌, ◌&&◌, Bool, None, length, min, nat_lt, not, false, true, IfOk, IsOk, OnErr};
+//! Pairs of connected Unix stream sockets: what socketpair(2) makes, and connections by name, which tell of a loss.
+ghost use Rattle.std.specs.Prelude.{◌≡◌, ◌≤◌, ◌-◌, ◌||◌, ◌&&◌, None, Some, if◌then◌else◌, length, min, nat_lt, not};
+ghost use Rattle.std.specs.Prelude.{false, true, IfOk, IsOk, OnErr};
 ghost use Rattle.ep_base.specs.declared.answer.Answer.TheVariants.{Named};
 ghost use Rattle.ep_base.specs.declared.socket.Family.TheVariants.{Unix};
 ghost use Rattle.ep_machine.specs.Bits.{nothing};
 ghost use Rattle.ep_machine.specs.Effect.{attempt, first};
 ghost use Rattle.ep_machine.specs.Lists.{is_empty};
-ghost use Rattle.ep_machine.specs.Sockets.{comes_no_more, ended, failed, fails_reading, new_pair, new_socket, own, pair_close, pair_name, pair_name_refusals, pair_peek, pair_present, pair_read, pair_read_refusals, pair_shut, pair_shut_refusals, pair_shutdown, pair_take_error, pair_write, pair_write_refusals, peer, shuts_read, shuts_write, socket_present, unix_closed, wants_more, without_error};
+ghost use Rattle.ep_machine.specs.Sockets.{comes_no_more, ended, failed, fails_reading, loses, new_connection};
+ghost use Rattle.ep_machine.specs.Sockets.{new_pair, new_socket, own, pair_close, pair_name, pair_name_refusals};
+ghost use Rattle.ep_machine.specs.Sockets.{pair_peek, pair_present, pair_read, pair_read_refusals, pair_shut};
+ghost use Rattle.ep_machine.specs.Sockets.{pair_shut_refusals, pair_shutdown, pair_take_error, pair_write};
+ghost use Rattle.ep_machine.specs.Sockets.{pair_write_refusals, peer, shuts_read, shuts_write, socket_present};
+ghost use Rattle.ep_machine.specs.Sockets.{unix_closed, wants_more, without_error};
 ghost use Rattle.ep_stream.specs.Waiting.{pair_waiting};
 
 use crate::bits::{NONE, beginning, intersection, told_or_begun, union, when};
@@ -19,8 +25,8 @@ use std::marker::Model;
 /// What an end is told where nothing more comes to it.
 const END_OF_INPUT: Mask = Mask(Mask::IN.0 | Mask::RDHUP.0);
 
-/// One end: the bytes that it may read, whether it shut its writing and its reading, whether it is closed, and the
-/// error that waits to be taken.
+/// One end: the bytes that it may read, whether it shut its writing and its reading, whether it is closed, the error
+/// that waits to be taken, and its name.
 #[derive(Drop)]
 struct Socket {
     queue: HeapCircularBuffer<u8>,
@@ -28,14 +34,15 @@ struct Socket {
     is_deaf: bool,
     is_closed: bool,
     error: Option<Errno>,
+    name: Option<Name>,
 }
 
 impl Socket {
     ghost use Rattle.ep_stream.specs.Socket.{socket_of};
 
-    /// An open end with an empty queue of at most `capacity` bytes.
-    fn new(alloc: Global, capacity: u32) -> Result<Socket, AllocError>
-        ensures socket { IfOk result (λ socket. socket_of false socket ≡ new_socket None) }
+    /// An open end of this name with an empty queue of at most `capacity` bytes.
+    fn new(alloc: Global, capacity: u32, name: Option<Name>) -> Result<Socket, AllocError>
+        ensures socket { IfOk result (λ socket. socket_of false socket ≡ new_socket name) }
         ensures capacity { IfOk result (λ socket. socket.queue.capacity ≡ capacity) }
     {
         Ok(Socket {
@@ -44,6 +51,7 @@ impl Socket {
             is_deaf: false,
             is_closed: false,
             error: None,
+            name,
         })
     }
 
@@ -125,6 +133,15 @@ impl Socket {
         (reading, writing)
     }
 
+    /// Notes that something was lost with the peer, if that is so.
+    fn lose(&mut self, is_lost: bool)
+        ensures { self.new ≡ (if is_lost then record self.old { error = Some Errno.Econnreset } else self.old) }
+    {
+        if is_lost {
+            self.error = Some(Errno::Econnreset);
+        }
+    }
+
     /// Leaves an end of which nobody can tell any more what it was: it and its peer are closed.
     fn end(&mut self)
         ensures socket { socket_of true self.new ≡ ended }
@@ -135,14 +152,18 @@ impl Socket {
         self.is_deaf = true;
         self.is_closed = true;
         self.error = Some(Errno::Econnreset);
+        self.name = None;
     }
 }
 
-/// Two connected ends: what one writes the other reads, in the same order.
+/// Two connected ends: what one writes the other reads, in the same order. With them goes whether an end is told what
+/// was lost with its peer, and whether the second end was accepted, or never had to be.
 #[derive(Drop)]
 pub struct SockPair {
     first_end: Socket,
     second_end: Socket,
+    tells_loss: bool,
+    is_accepted: bool,
 }
 
 impl Model for SockPair {
@@ -153,7 +174,7 @@ impl Model for SockPair {
 
     ghost use Rattle.ep_stream.specs.Socket.{pair_of};
 
-    ghost view = { λ p. pair_of p.first_end p.second_end };
+    ghost view = { pair_of };
 
     ghost invariant = { λ p. p.second_end.queue.capacity ≡ p.first_end.queue.capacity };
 }
@@ -161,22 +182,51 @@ impl Model for SockPair {
 impl SockPair {
     ghost use Rattle.ep_stream.specs.Socket.{socket_of};
 
-    /// What always holds: the second end waits nowhere to be accepted.
-    pub fn is_accepted(&self)
-        ensures { self.now.is_accepted ≡ true }
-    {
-        let _ = &self.first_end;
-    }
-
-    /// A pair of open ends, each with an empty queue of at most `capacity` bytes.
-    /// All memory that later calls need is taken here, but for the bytes that a read or a peek gives.
+    /// socketpair(2): open ends without names, each with an empty queue of at most `capacity` bytes. Neither is told
+    /// what is lost with its peer. All memory that later calls need is taken here, but for the bytes that a read or a
+    /// peek gives.
     pub fn new(alloc: Global, capacity: u32) -> Result<SockPair, AllocError>
         ensures { IfOk result (λ pair. pair ≡ new_pair capacity) }
     {
         Ok(SockPair {
-            first_end: Socket::new(alloc, capacity)?,
-            second_end: Socket::new(alloc, capacity)?,
+            first_end: Socket::new(alloc, capacity, None)?,
+            second_end: Socket::new(alloc, capacity, None)?,
+            tells_loss: false,
+            is_accepted: true,
         })
+    }
+
+    /// What connect(2) makes: the first end, whose name is `own`, connected by `name`, which is the name of the second
+    /// end. That one waits to be accepted. Each has an empty queue of at most `capacity` bytes, and is told what is
+    /// lost with its peer. All memory is taken here, as for `new`.
+    pub fn connection(
+        alloc: Global,
+        capacity: u32,
+        own: Option<Name>,
+        name: Name,
+    ) -> Result<SockPair, AllocError>
+        ensures { IfOk result (λ pair. pair ≡ new_connection Unix capacity own (Some name)) }
+    {
+        Ok(SockPair {
+            first_end: Socket::new(alloc, capacity, own)?,
+            second_end: Socket::new(alloc, capacity, Some(name))?,
+            tells_loss: true,
+            is_accepted: false,
+        })
+    }
+
+    /// Whether the second end is open and waits to be accepted.
+    pub fn is_waiting(&self) -> bool
+        ensures { result ≡ (not self.now.is_accepted && not self.now.second_end.is_closed) }
+    {
+        !self.is_accepted && !self.second_end.is_closed
+    }
+
+    /// accept(2) of the second end: it waits no more.
+    pub fn accept(&mut self)
+        ensures { self.new ≡ record self.old { is_accepted = true } }
+    {
+        self.is_accepted = true;
     }
 
     /// read(2) of at most `n` bytes at this end, and what it raises. It gives the first bytes that wait. It gives none
@@ -266,23 +316,47 @@ impl SockPair {
         (Answer::Done, raised)
     }
 
-    /// Notes that this end is closed for good, and gives what that raises at the peer: IN, RDHUP and
-    /// HUP, and whatever begins to hold, as OUT. If the peer is closed already, nobody is left who could tell what
-    /// the ends were: both get one and the same content, and nothing is raised.
+    /// Notes that this end is closed for good, and gives what that raises at the peer: IN, RDHUP and HUP, and whatever
+    /// begins to hold, as OUT. If a connection loses something by it, ERR too: ECONNRESET waits at the peer then. If
+    /// the peer is closed already, nobody is left who could tell what the ends were: both get one and the same content,
+    /// and nothing is raised.
     #[tactic(auto, using(crate::proofs::Peers::peer_begins))]
     pub fn close_end(&mut self, end: End) -> Raised
         ensures { (self.new, result) ≡ pair_close self.old end }
     {
         if self.ends(end).1.is_closed {
-            self.first_end.end();
-            self.second_end.end();
+            self.end();
             return raises(NONE, NONE);
         }
         let before = self.present(opposite(end));
-        self.note_closed(end);
-        let told = union(END_OF_INPUT, Mask::HUP);
+        let is_lost = self.loses(end);
+        self.note_closed(end, is_lost);
+        let told = union(END_OF_INPUT, union(Mask::HUP, when(is_lost, Mask::ERR)));
         let after = self.present(opposite(end));
         raised_ends(end, NONE, told_or_begun(told, before, after))
+    }
+
+    /// Whether something is lost with this end that its peer is told: bytes that it didn't read, or a connection that
+    /// nobody accepted. A socket pair tells of none.
+    fn loses(&self, end: End) -> bool
+        ensures { result ≡ loses self.now end }
+    {
+        match end {
+            End::First => self.tells_loss && !self.first_end.queue.is_empty(),
+            End::Second => {
+                self.tells_loss && (!self.second_end.queue.is_empty() || !self.is_accepted)
+            }
+        }
+    }
+
+    /// Leaves a pair of which nobody can tell any more what it was: both ends are closed.
+    fn end(&mut self)
+        ensures { self.new ≡ record self.old
+            { is_confirmed = true; is_accepted = true; first_end = ended; second_end = ended } }
+    {
+        self.first_end.end();
+        self.second_end.end();
+        self.is_accepted = true;
     }
 
     /// getsockopt(2) with SO_ERROR at this end: takes the error that waits there, and answers its number by
@@ -296,14 +370,25 @@ impl SockPair {
         }
     }
 
-    /// getsockname(2) and getpeername(2) at either end: no end of a socket pair has a name.
-    pub fn name(&self) -> Option<Name>
-        ensures { (end : End) (of_peer : Bool)
-            → attempt (pair_name_refusals self.now end of_peer) self.now (pair_name self.now end of_peer)
+    /// getsockname(2) at this end, or getpeername(2) with `of_peer`. No end of a socket pair has a name. Of a
+    /// connection the first end has the one that it was bound to, if any, and the second that of its listener.
+    pub fn name(&self, end: End, of_peer: bool) -> Option<Name>
+        ensures { attempt (pair_name_refusals self.now end of_peer) self.now (pair_name self.now end of_peer)
             ≡ (Named result, self.now, nothing) }
     {
-        let _ends = &self.first_end; // the prover learns of it what a pair is
-        None
+        let (own, peer) = self.ends(end);
+        if of_peer { peer.name } else { own.name }
+    }
+
+    /// The name that the first end keeps from others until it closes.
+    pub fn kept_name(&self) -> Option<Name>
+        ensures { result ≡ (if self.now.first_end.is_closed then None else self.now.first_end.name) }
+    {
+        if self.first_end.is_closed {
+            None
+        } else {
+            self.first_end.name
+        }
     }
 
     /// What its ends speak.
@@ -377,16 +462,23 @@ impl SockPair {
         }
     }
 
-    /// Notes that this end is closed, while its peer isn't.
+    /// Notes that this end is closed, while its peer isn't, and the error there if something is lost.
     #[tactic(auto, using(crate::proofs::PairMarks::first_closes, crate::proofs::PairMarks::second_closes))]
-    fn note_closed(&mut self, end: End)
-        requires { (peer self.old end).is_closed ≡ false }
+    fn note_closed(&mut self, end: End, is_lost: bool)
+        requires peer { (peer self.old end).is_closed ≡ false }
+        requires lost { is_lost ≡ loses self.old end }
         ensures pair { self.new ≡ unix_closed self.old end }
         ensures family { self.old.family ≡ Unix }
     {
         match end {
-            End::First => self.first_end.is_closed = true,
-            End::Second => self.second_end.is_closed = true,
+            End::First => {
+                self.first_end.is_closed = true;
+                self.second_end.lose(is_lost);
+            }
+            End::Second => {
+                self.second_end.is_closed = true;
+                self.first_end.lose(is_lost);
+            }
         }
     }
 

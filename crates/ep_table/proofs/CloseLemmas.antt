@@ -1,5 +1,5 @@
 -- A description dies.
-use Rattle.std.proofs.Common.{Bool, IsSome, List, None, Option, Some, [], ap, arith, false, get_or, inl, inr, is_none, is_some, length, refl, slice_set, suc, sym, true, zero, ℕ, ◌+◌, ◌==◌, ◌∙◌, ◌∷◌, ◌≡◌, ◌≢◌, ◌⊎◌, if◌then◌else◌}
+use Rattle.std.proofs.Common.{Bool, List, None, Option, Some, [], ap, arith, false, get_or, inl, inr, is_some, length, refl, slice_set, suc, sym, true, zero, ℕ, ◌+◌, ◌==◌, ◌∙◌, ◌∷◌, ◌≡◌, ◌≢◌, ◌⊎◌, ◌||◌, if◌then◌else◌}
 use Rattle.std.specs.List.{list_any}
 use Rattle.std.proofs.lemmas.Bool.{cases_Bool}
 use Rattle.std.proofs.lemmas.List.{get_or_past}
@@ -11,9 +11,9 @@ use Rattle.ep_base.specs.declared.object.End.{End}
 use Rattle.ep_base.specs.declared.object.End.TheVariants.{First, Second}
 use Rattle.ep_machine.specs.Files.{Place}
 use Rattle.ep_machine.specs.Lists.{numbered}
-use Rattle.ep_machine.specs.Objects.{Object, close_end}
+use Rattle.ep_machine.specs.Objects.{Object, close_end, is_waiting}
 use Rattle.ep_table.specs.ByNumber.{NumberedBy, with_by}
-use Rattle.ep_table.specs.Closing.{closed_in, closed_slot, kept_with, other_key, opposite}
+use Rattle.ep_table.specs.Closing.{closed_in, closed_slot, kept_if, other_key, opposite, remains}
 use Rattle.ep_table.specs.Stored.{AllBacked, AllOwned, Backs, Owns, key_at as end_key, number_in, object_in, object_number_in, objects, place_in, places}
 use Rattle.ep_table.specs.declared.words.Description.{Description}
 use Rattle.ep_table.specs.declared.words.Shared.{Shared}
@@ -85,20 +85,21 @@ pub closed_object : (s : Shared) (e : End) → (closed_in s e).object ≡ (close
 closed_object s First = refl
 closed_object s Second = refl
 
-kept_number : (o : Option DescId) (s : Shared) (e : End) (t : Shared) → kept_with o (closed_in s e) ≡ Some t → object_number_in t ≡ object_number_in s
-kept_number None s e t h = absurd cc
-kept_number (Some k) s e t h = let q : closed_in s e ≡ t = cc in sym (ap object_number_in q) ∙ closed_number s e
+kept_number : (b : Bool) (s : Shared) (e : End) (t : Shared) → kept_if b (closed_in s e) ≡ Some t → object_number_in t ≡ object_number_in s
+kept_number false s e t h = absurd cc
+kept_number true s e t h = let q : closed_in s e ≡ t = cc in sym (ap object_number_in q) ∙ closed_number s e
 
-kept_value : (o : Option DescId) (s : Shared) (e : End) → value_in object_number_in object_in (kept_with o (closed_in s e)) ≡ (if is_some o then Some (close_end s.object e).0 else None)
-kept_value None s e = refl
-kept_value (Some k) s e = ap (λ (x : Object). Some x) (closed_object s e)
+kept_value : (b : Bool) (s : Shared) (e : End) → value_in object_number_in object_in (kept_if b (closed_in s e)) ≡ (if b then Some (close_end s.object e).0 else None)
+kept_value false s e = refl
+kept_value true s e = ap (λ (x : Object). Some x) (closed_object s e)
 
-kept_is : (o : Option DescId) (t x : Shared) → kept_with o t ≡ Some x → (x ≡ t) × (IsSome o)
-kept_is None t x h = absurd cc
-kept_is (Some k) t x h = let e : t ≡ x = cc in (sym e, refl)
+kept_is : (b : Bool) (t x : Shared) → kept_if b t ≡ Some x → x ≡ t
+kept_is false t x h = absurd cc
+kept_is true t x h = let e : t ≡ x = cc in sym e
 
-kept_some : (o : Option DescId) (k : DescId) (t : Shared) → o ≡ Some k → kept_with o t ≡ Some t
-kept_some o k t h = ap (λ (p : Option DescId). kept_with p t) h
+-- it stays where the other end has a key
+kept_some : (s : Shared) (e : End) (k : DescId) → other_key s e ≡ Some k → kept_if (remains s e) (closed_in s e) ≡ Some (closed_in s e)
+kept_some s e k h = ap (λ (p : Option DescId). kept_if (is_some p || is_waiting (closed_in s e).object) (closed_in s e)) h
 
 module _ (ds : List (Option Description)) (os : List (Option Shared)) (n m : ℕ) (nd : NumberedBy number_in ds n) (no : NumberedBy object_number_in os m) (backed : AllBacked ds os) (owned : AllOwned ds os)
     (key : DescId) (d : Description) (is : get_or ds key.0 None ≡ Some d) where
@@ -121,7 +122,7 @@ module _ (ds : List (Option Description)) (os : List (Option Shared)) (n m : ℕ
   none_keeps t h = absurd cc
 
   keeps : (t : Shared) → o ≡ Some t → object_number_in t ≡ object_number_in s
-  keeps t h = kept_number (other_key s d.end) s d.end t h
+  keeps t h = kept_number (remains s d.end) s d.end t h
 
   -- what is left was there, under another key
   pub left_apart : (k : ℕ) (x : Description) → get_or ds1 k None ≡ Some x → k ≢ key.0
@@ -154,7 +155,7 @@ module _ (ds : List (Option Description)) (os : List (Option Shared)) (n m : ℕ
         let same : w.it ≡ s = (let y = w.is in let z = b.is in let u = ap (λ (i : ℕ). get_or os i None) at in cc) in
         record {
           it = closed_in s d.end;
-          is = ap (λ (i : ℕ). get_or os1 i None) at ∙ (closed_here ∙ kept_some (other_key s d.end) (record { 0 = k }) (closed_in s d.end) p.1);
+          is = ap (λ (i : ℕ). get_or os1 i None) at ∙ (closed_here ∙ kept_some s d.end (record { 0 = k }) p.1);
           number = closed_number s d.end ∙ (ap object_number_in (sym same) ∙ w.number);
           key_is = ap (λ (y : End). end_key (closed_in s d.end) y) p.0 ∙ (closed_other s d.end ∙ (other_is s d.end ∙ p.1));
         }
@@ -167,8 +168,8 @@ module _ (ds : List (Option Description)) (os : List (Option Shared)) (n m : ℕ
   pub owned_left : AllOwned ds1 os1
   owned_left i x e k h has = elim (same_or_not i d.object) [
     | inl at ↦
-        let q = kept_is (other_key s d.end) (closed_in s d.end) x (sym closed_here ∙ (ap (λ (j : ℕ). get_or os1 j None) (sym at) ∙ h)) in
-        let has1 : end_key (closed_in s d.end) e ≡ Some k = ap (λ (y : Shared). end_key y e) (sym q.0) ∙ has in
+        let q = kept_is (remains s d.end) (closed_in s d.end) x (sym closed_here ∙ (ap (λ (j : ℕ). get_or os1 j None) (sym at) ∙ h)) in
+        let has1 : end_key (closed_in s d.end) e ≡ Some k = ap (λ (y : Shared). end_key y e) (sym q) ∙ has in
         elim (end_or d.end e) [
           | inl own ↦ absurd (let r : None ≡ Some k = sym (closed_own s d.end) ∙ (ap (λ (y : End). end_key (closed_in s d.end) y) (sym own) ∙ has1) in cc)
           | inr opp ↦
@@ -218,32 +219,28 @@ module _ (ds : List (Option Description)) (os : List (Option Shared)) (n m : ℕ
       let r : None ≡ Some (record { 0 = g.0.key }) = sym e ∙ (shares g.0.key x was (left_apart g.0.key x g.0.is) at).1 in absurd cc) in
       ap same_object (sym g.1) ∙ test_apart x.object_number d.object_number apart)
 
-  pub objects_shut : objects os1 m ≡ slice_set (objects os m) s.number (if is_some (other_key s d.end) then Some (close_end s.object d.end).0 else None)
-  objects_shut = contents_next object_number_in object_in os d.object s b.is m no o keeps ∙ ap (λ (x : Option Object). slice_set (objects os m) s.number x) (kept_value (other_key s d.end) s d.end)
+  pub objects_shut : objects os1 m ≡ slice_set (objects os m) s.number (if remains s d.end then Some (close_end s.object d.end).0 else None)
+  objects_shut = contents_next object_number_in object_in os d.object s b.is m no o keeps ∙ ap (λ (x : Option Object). slice_set (objects os m) s.number x) (kept_value (remains s d.end) s d.end)
 
-  pub objects_closed : objects os1 m ≡ slice_set (objects os m) d.object_number (if list_any (λ y. y.1.object == d.object_number) (numbered 0 (slice_set (places ds n) d.number None)) then Some (close_end s.object d.end).0 else None)
+  pub objects_closed : objects os1 m ≡ slice_set (objects os m) d.object_number (if list_any (λ y. y.1.object == d.object_number) (numbered 0 (slice_set (places ds n) d.number None)) || is_waiting (close_end s.object d.end).0 then Some (close_end s.object d.end).0 else None)
   objects_closed =
       let a : is_some (other_key s d.end) ≡ list_any (λ y. y.1.object == d.object_number) (numbered 0 (slice_set (places ds n) d.number None)) =
       sym (any_other (other_key s d.end) refl) ∙ ap (λ (xs : List (Option Place)). list_any (λ y. y.1.object == d.object_number) (numbered 0 xs)) places_left in
-      objects_shut ∙ (ap (λ (k : ℕ). slice_set (objects os m) k (if is_some (other_key s d.end) then Some (close_end s.object d.end).0 else None)) b.number ∙ ap (λ (c : Bool). slice_set (objects os m) d.object_number (if c then Some (close_end s.object d.end).0 else None)) a)
+      let both : remains s d.end ≡ (list_any (λ y. y.1.object == d.object_number) (numbered 0 (slice_set (places ds n) d.number None)) || is_waiting (close_end s.object d.end).0) =
+      (λ i. a i || is_waiting (closed_object s d.end i)) in
+      objects_shut ∙ (ap (λ (k : ℕ). slice_set (objects os m) k (if remains s d.end then Some (close_end s.object d.end).0 else None)) b.number ∙ ap (λ (c : Bool). slice_set (objects os m) d.object_number (if c then Some (close_end s.object d.end).0 else None)) both)
 
 closed_other_key : (s : Shared) (e : End) → other_key (closed_in s e) e ≡ other_key s e
 closed_other_key s First = refl
 closed_other_key s Second = refl
 
-none_is : {T : Type 0} (o : Option T) → is_none o ≡ true → o ≡ None
-none_is None h = refl
-none_is (Some x) h = absurd cc
+-- whether it stays is told by the object with the end closed
+pub remains_by : (s t : Shared) (e : End) → t ≡ closed_in s e → (is_some (other_key t e) || is_waiting t.object) ≡ remains s e
+remains_by s t e h = ap (λ (x : Shared). is_some (other_key x e) || is_waiting x.object) h ∙ ap (λ (o : Option DescId). is_some o || is_waiting (closed_in s e).object) (closed_other_key s e)
 
--- the slot is empty where the other end has no key
-pub gone : (slots new : List (Option Shared)) (at : ℕ) (s t : Shared) (e : End) → get_or slots at None ≡ Some s → new ≡ slice_set (slice_set slots at (Some t)) at None → (t ≡ closed_in s e) × (is_none (other_key t e) ≡ true)
+-- the slot is empty where it doesn't stay
+pub gone : (slots new : List (Option Shared)) (at : ℕ) (s t : Shared) (e : End) → get_or slots at None ≡ Some s → new ≡ slice_set (slice_set slots at (Some t)) at None → remains s e ≡ false
     → new ≡ slice_set slots at (closed_slot (get_or slots at None) e)
 gone slots new at s t e is f h =
-    let o : other_key s e ≡ None = sym (closed_other_key s e) ∙ (ap (λ (x : Shared). other_key x e) (sym h.0) ∙ none_is (other_key t e) h.1) in
-    let g : closed_slot (get_or slots at None) e ≡ None = ap (λ (q : Option Shared). closed_slot q e) is ∙ ap (λ (k : Option DescId). kept_with k (closed_in s e)) o in
+    let g : closed_slot (get_or slots at None) e ≡ None = ap (λ (q : Option Shared). closed_slot q e) is ∙ ap (λ (b : Bool). kept_if b (closed_in s e)) h in
     f ∙ (set_set slots at (Some t) None ∙ ap (λ (q : Option Shared). slice_set slots at q) (sym g))
-
-pub none_test : {T : Type 0} (a b : Option T) → a ≡ b → is_some a ≡ false → is_none b ≡ true
-none_test None None e h = refl
-none_test None (Some y) e h = absurd cc
-none_test (Some x) b e h = absurd cc

@@ -1,6 +1,5 @@
 -- The death of a description, as the machine has it.
 use Rattle.std.proofs.Common.{Bool, List, None, Option, Some, [], ap, get_or, map, slice_set, subst, sym, unwrap_or, ℕ, ◌++◌, ◌==◌, ◌∙◌, ◌∷◌, ◌≡◌, ◌||◌, if◌then◌else◌}
-use Rattle.std.proofs.Math.Bool.{or-false}
 use Rattle.std.specs.List.{list_any}
 use Rattle.ep_facts.proofs.ListFacts.{map_set}
 use Rattle.ep_base.specs.declared.ids.DescId.{DescId}
@@ -9,7 +8,6 @@ use Rattle.ep_machine.specs.Deaths.{die}
 use Rattle.ep_machine.specs.Files.{Place, object_at, object_of, place_of}
 use Rattle.ep_machine.specs.Lists.{numbered}
 use Rattle.ep_machine.specs.Objects.{Object, close_end, is_waiting, plain}
-use Rattle.ep_object.proofs.PendingLemmas.{close_leaves_accepted}
 use Rattle.ep_table.specs.ByNumber.{contents_by}
 use Rattle.ep_table.specs.Closing.{Dies, closed_slot, other_slot, raised_slot}
 use Rattle.ep_table.specs.Stored.{AllFewer, AllKeyed, IsStore, count_in, counts, holds_in, key_number, names_in, number_in, objects, place_in, places, queued, things}
@@ -36,7 +34,7 @@ module _ {A : Type 0} (k : Inside A) (v : Things) (inv : IsStore k) (same : thin
   abbrev after : Things
   after = record {
     descriptions = slice_set v.descriptions d.number None;
-    objects = slice_set v.objects d.object_number (if list_any (λ y. y.1.object == d.object_number) (numbered 0 (slice_set v.descriptions d.number None)) then Some (close_end s.object d.end).0 else None);
+    objects = slice_set v.objects d.object_number (if list_any (λ y. y.1.object == d.object_number) (numbered 0 (slice_set v.descriptions d.number None)) || is_waiting (close_end s.object d.end).0 then Some (close_end s.object d.end).0 else None);
     keys = slice_set v.keys key.0 None;
     names = v.names;
     holds = v.holds;
@@ -53,10 +51,7 @@ module _ {A : Type 0} (k : Inside A) (v : Things) (inv : IsStore k) (same : thin
       let e : content ≡ s.object = ap unwrapped object_under in
       let without = record (files_in v) { descriptions = slice_set v.descriptions d.number None } in
       let others : Bool = list_any (λ y. y.1.object == d.object_number) (numbered 0 (slice_set v.descriptions d.number None)) in
-      let accepted = close_leaves_accepted s.object d.end (inv.quiet d.object s (backs k v inv same key d is).is).accepted in
-      let kept : others ≡ (others || is_waiting (close_end s.object d.end).0) = sym (ap (λ (b : Bool). others || b) accepted ∙ or-false others) in
-      (λ i. record without { objects = slice_set v.objects d.object_number (if kept i then Some (close_end s.object d.end).0 else None) })
-      ∙ (λ i. record without { objects = slice_set v.objects d.object_number (if others || is_waiting (close_end (sym e i) d.end).0 then Some (close_end (sym e i) d.end).0 else None) })
+      (λ i. record without { objects = slice_set v.objects d.object_number (if others || is_waiting (close_end (sym e i) d.end).0 then Some (close_end (sym e i) d.end).0 else None) })
 
   module _ (rest : List Dying) (last : Dying) (split : k.dying.items ≡ rest ++ last ∷ []) (named : last.number ≡ d.number) where
     first_is : v.dying ≡ d.number ∷ queued rest
@@ -106,7 +101,7 @@ module _ {A : Type 0} (k : Inside A) (v : Things) (inv : IsStore k) (same : thin
         let q : objects os k.made ≡ after.objects =
         ap (λ (xs : List (Option Shared)). objects xs k.made) g1
         ∙ (objects_closed k.descriptions.slots k.objects.slots k.described k.made inv.descriptions inv.objects inv.backed inv.owned key d is
-        ∙ ap (λ (w : Things). slice_set w.objects d.object_number (if list_any (λ y. y.1.object == d.object_number) (numbered 0 (slice_set w.descriptions d.number None)) then Some (close_end s.object d.end).0 else None)) same) in
+        ∙ ap (λ (w : Things). slice_set w.objects d.object_number (if list_any (λ y. y.1.object == d.object_number) (numbered 0 (slice_set w.descriptions d.number None)) || is_waiting (close_end s.object d.end).0 then Some (close_end s.object d.end).0 else None)) same) in
         let keys : map key_number ds ≡ slice_set v.keys key.0 None = ap (map key_number) f ∙ (map_set key_number k.descriptions.slots key.0 None ∙ ap (λ (w : Things). slice_set w.keys key.0 None) same) in
         record {
           number = d.number;

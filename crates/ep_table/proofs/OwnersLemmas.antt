@@ -1,21 +1,21 @@
 -- Whose a name is, as objects come, change and go.
-use Rattle.std.proofs.Common.{IsSome, ◌≡◌, ◌≢◌, ◌<◌, ◌∙◌, Bool, List, None, Option, Some, ap, false, get_or, inl, inr, length, refl, slice_set, sym, true, ℕ}
+use Rattle.std.proofs.Common.{IsSome, ◌≡◌, ◌≢◌, ◌<◌, ◌∙◌, Bool, List, None, Option, Some, ap, false, get_or, inl, inr, is_some, length, refl, slice_set, sym, true, ℕ}
 use Rattle.std.proofs.lemmas.Bool.{false≢true}
 use Rattle.std.proofs.lemmas.List.{get_or-set_other, get_or-set_same, get_or_past}
 use Rattle.std.specs.Prelude.{if◌then◌else◌}
-use Rattle.ep_base.specs.declared.ids.DescId.{DescId}
 use Rattle.ep_base.specs.declared.object.End.{End}
 use Rattle.ep_base.specs.declared.socket.Name.{Name}
 use Rattle.ep_facts.proofs.NatFacts.{below_or, same_or_not}
 use Rattle.ep_machine.specs.Names.{is_there}
-use Rattle.ep_machine.specs.Objects.{has_name, name_in}
+use Rattle.ep_machine.specs.Objects.{close_end, has_name, name_in}
 use Rattle.ep_names.specs.Names.{Taken, owner_of}
-use Rattle.ep_object.proofs.NamingLemmas.{close_keeps_name}
+use Rattle.ep_object.proofs.NamingLemmas.{close_keeps_or_frees}
 use Rattle.ep_object.specs.Naming.{Gains}
 use Rattle.ep_table.proofs.CloseLemmas.{closed_object}
 use Rattle.ep_table.proofs.InsertLemmas.{Inserted}
-use Rattle.ep_table.specs.Closing.{closed_in, closed_slot, kept_with, other_key}
-use Rattle.ep_table.specs.Taking.{AreOwners, freed_with, object_slot}
+use Rattle.ep_table.proofs.TakingLemmas.{stays_named}
+use Rattle.ep_table.specs.Closing.{closed_in, closed_slot, kept_if, remains}
+use Rattle.ep_table.specs.Taking.{AreOwners, freed_if, object_slot}
 use Rattle.ep_table.specs.declared.words.Shared.{Shared}
 
 -- an object more
@@ -64,25 +64,32 @@ module _ (names new : Taken) (os : List (Option Shared)) (h : AreOwners names os
           had None gains own = ap (is_there name) gains ∙ own
           had (Some n) gains own = absurd (false≢true (sym (ap (is_there name) gains.0) ∙ own))
 
-  -- an end of it closes, and it goes with the last, and its name with it
-  pub owners_closed : (e : End) (freed : Option Name) → freed ≡ freed_with (other_key s e) (closed_in s e).object
+  -- an end of it closes, and it goes with the last, and its name with it, or with the end
+  pub owners_closed : (e : End) (freed : Option Name) → freed ≡ freed_if (remains s e) s.object (closed_in s e).object
       → ((n : Name) → owner_of new n ≡ (if is_there n freed then None else owner_of names n)) → AreOwners new (slice_set os at (closed_slot (Some s) e))
-  owners_closed e freed f less name i o = by_key (other_key s e) f where
-    same_name_then : name_in (closed_in s e).object ≡ name_in s.object
-    same_name_then = ap name_in (closed_object s e) ∙ close_keeps_name s.object e
+  owners_closed e freed f less name i o = by_test (remains s e) f where
+    left : name_in (closed_in s e).object ≡ name_in (close_end s.object e).0
+    left = ap name_in (closed_object s e)
 
     was : (m : Option Name) → freed ≡ m → (b : Bool) → is_there name m ≡ b → (owner_of names name ≡ Some i) × (b ≡ false)
     was m g true h =
         let gone : None ≡ Some i = sym (less name ∙ ap (λ (b : Bool). if b then None else owner_of names name) (ap (is_there name) g ∙ h)) ∙ o in absurd cc
     was m g false h = (sym (less name ∙ ap (λ (b : Bool). if b then None else owner_of names name) (ap (is_there name) g ∙ h)) ∙ o, refl)
 
-    by_key : (k : Option DescId) → freed ≡ freed_with k (closed_in s e).object → has_name name (object_slot (get_or (slice_set os at (kept_with k (closed_in s e))) i None)) ≡ true
-    by_key None g =
-        let w = was (name_in s.object) (g ∙ same_name_then) (is_there name (name_in s.object)) refl in
-        put None name i (λ same. absurd (false≢true (sym w.1 ∙ own name i same w.0))) (λ ne. h name i w.0)
-    by_key (Some key) g =
-        let w = was None g false refl in
-        put (Some (closed_in s e)) name i (λ same. ap (is_there name) same_name_then ∙ own name i same w.0) (λ ne. h name i w.0)
+    -- all of its name went
+    without : (t : Option Shared) → freed ≡ name_in s.object → has_name name (object_slot (get_or (slice_set os at t) i None)) ≡ true
+    without t g =
+        let w = was (name_in s.object) g (is_there name (name_in s.object)) refl in
+        put t name i (λ same. absurd (false≢true (sym w.1 ∙ own name i same w.0))) (λ ne. h name i w.0)
+
+    by_test : (b : Bool) → freed ≡ freed_if b s.object (closed_in s e).object → has_name name (object_slot (get_or (slice_set os at (kept_if b (closed_in s e))) i None)) ≡ true
+    by_test false g = without None g
+    by_test true g = elim (close_keeps_or_frees s.object e) [
+      | inl same ↦
+          let w = was None (g ∙ stays_named (name_in s.object) (name_in (closed_in s e).object) (left ∙ same)) false refl in
+          put (Some (closed_in s e)) name i (λ here. ap (is_there name) (left ∙ same) ∙ own name i here w.0) (λ ne. h name i w.0)
+      | inr none ↦ without (Some (closed_in s e)) (g ∙ ap (λ (o : Option Name). if is_some o then None else name_in s.object) (left ∙ none))
+    ]
 
 -- the owner of a name is there, and has it
 pub owner_there : (names : Taken) (os : List (Option Shared)) → AreOwners names os → (name : Name) (at : ℕ) → owner_of names name ≡ Some at → IsSome (get_or os at None)

@@ -6,7 +6,6 @@ use Rattle.std.specs.Prelude.{IfOk, OnErr, if◌then◌else◌, length}
 use Rattle.std.specs.declared.alloc.AllocError.{AllocError}
 use Rattle.ep_base.specs.declared.answer.Answer.{Answer}
 use Rattle.ep_base.specs.declared.errno.Errno.{Errno}
-use Rattle.ep_base.specs.declared.ids.DescId.{DescId}
 use Rattle.ep_base.specs.declared.object.End.{End}
 use Rattle.ep_base.specs.declared.object.Raised.{Raised}
 use Rattle.ep_facts.proofs.NatFacts.{below_or, same_or_not}
@@ -23,7 +22,7 @@ use Rattle.ep_table.proofs.ByNumberLemmas.{content_there, contents_length, has_o
 use Rattle.ep_table.proofs.CloseLemmas.{closed_object}
 use Rattle.ep_table.proofs.InsertLemmas.{Inserted}
 use Rattle.ep_table.specs.ByNumber.{NumberedBy, with_by}
-use Rattle.ep_table.specs.Closing.{closed_in, closed_slot, kept_with, other_key}
+use Rattle.ep_table.specs.Closing.{closed_in, closed_slot, kept_if, remains}
 use Rattle.ep_table.specs.Stored.{AllQuiet, object_in, object_number_in, objects}
 use Rattle.ep_table.specs.declared.words.Shared.{Shared}
 
@@ -75,13 +74,13 @@ module _ (os : List (Option Shared)) (h : AllQuiet os) (at : ℕ) (s : Shared) (
 
   -- an end of it closes, and it goes with the last
   pub quiet_closed : (e : End) → AllQuiet (slice_set os at (closed_slot (Some s) e))
-  quiet_closed e = put (closed_slot (Some s) e) (by_key (other_key s e)) where
+  quiet_closed e = put (closed_slot (Some s) e) (by_test (remains s e)) where
     left : IsQuiet (closed_in s e).object
     left = subst (λ (y : Object). IsQuiet y) (sym (closed_object s e)) (closed_quiet s.object e (h at s is))
 
-    by_key : (k : Option DescId) (t : Shared) → kept_with k (closed_in s e) ≡ Some t → IsQuiet t.object
-    by_key None t f = absurd cc
-    by_key (Some key) t f = let same : closed_in s e ≡ t = cc in subst (λ (y : Shared). IsQuiet y.object) same left
+    by_test : (b : Bool) (t : Shared) → kept_if b (closed_in s e) ≡ Some t → IsQuiet t.object
+    by_test false t f = absurd cc
+    by_test true t f = let same : closed_in s e ≡ t = cc in subst (λ (y : Shared). IsQuiet y.object) same left
 
 -- by their numbers
 pub content_quiet : (os : List (Option Shared)) (m : ℕ) → NumberedBy object_number_in os m → AllQuiet os → (n : ℕ) → IsQuiet (unwrap_or (get_or (objects os m) n None) plain)

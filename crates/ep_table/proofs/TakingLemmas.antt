@@ -12,10 +12,11 @@ use Rattle.std.proofs.lemmas.List.{get_or-set_other, get_or-set_same, get_or_pas
 use Rattle.ep_facts.proofs.BoolFacts.{first_of_or as first_false, or_cases, second_of_or as rest_false}
 use Rattle.ep_facts.proofs.NatFacts.{below_or, same_or_not}
 use Rattle.ep_names.proofs.NameLemmas.{same_is}
+use Rattle.ep_base.specs.declared.socket.Hearing.TheVariants.{Nobody}
 use Rattle.ep_base.specs.declared.socket.Name.{Name}
 use Rattle.ep_machine.specs.Names.{is_there, same_name}
 use Rattle.ep_machine.specs.Effect.{Effect, attempt, first, unless}
-use Rattle.ep_machine.specs.Objects.{Object, ObjectCall, close_end, found_for, has_name, is_heard, is_listener, is_taken, listener, listens_at, name_in, object_effect, object_refusals}
+use Rattle.ep_machine.specs.Objects.{Object, ObjectCall, close_end, found_for, has_name, heard_by, hearing, hearing_in, is_taken, listener, listens_at, name_in, object_effect, object_refusals}
 use Rattle.ep_names.specs.Names.{Taken, holds, owner_of}
 use Rattle.ep_object.specs.Asked.{found_in, takes_name}
 use Rattle.ep_object.proofs.AnswerLemmas.{waiting_is_given}
@@ -25,13 +26,12 @@ use Rattle.ep_base.specs.declared.call.Call.{Call}
 use Rattle.ep_base.specs.declared.call.Call.TheVariants.{Bind, Connect, Listen}
 use Rattle.ep_base.specs.declared.errno.Errno.{Errno}
 use Rattle.ep_base.specs.declared.ids.Fd.{Fd}
-use Rattle.ep_base.specs.declared.ids.DescId.{DescId}
 use Rattle.ep_base.specs.declared.object.End.{End}
-use Rattle.ep_object.proofs.NamingLemmas.{close_keeps_name, nobody_named}
+use Rattle.ep_object.proofs.NamingLemmas.{close_keeps_or_frees, nobody_named}
 use Rattle.ep_table.proofs.CloseLemmas.{closed_object}
-use Rattle.ep_table.specs.Closing.{closed_in, other_key}
+use Rattle.ep_table.specs.Closing.{closed_in, remains}
 use Rattle.ep_table.specs.declared.words.Shared.{Shared}
-use Rattle.ep_table.specs.Taking.{FindsFree, IsFree, Taking, freed_with}
+use Rattle.ep_table.specs.Taking.{FindsFree, IsFree, Taking, freed_if}
 
 -- A list in which a place changes.
 module _ {X : Type 0} (p : X → Bool) where
@@ -131,23 +131,25 @@ module _ (names : Taken) (os : List (Option Object)) (t : Taking names os) where
           none_there p (x ∷ xs) h zero g = first_false (p x) (list_any p xs) h
           none_there p (x ∷ xs) h (suc j) g = none_there p xs (rest_false (p x) (list_any p xs) h) j g
 
-    -- it goes, and its name with it
-    pub taking_gone : (new : Taken) → ((n : Name) → holds new n ≡ (not (is_there n (name_in x)) && holds names n)) → Taking new (slice_set os k None)
-    taking_gone new less = record {
+    -- its name goes, or it goes with its name
+    pub taking_gone : (o : Option Object) (new : Taken) → ((n : Name) → has_name n o ≡ false) → ((n : Name) → holds new n ≡ (not (is_there n (name_in x)) && holds names n))
+        → Taking new (slice_set os k o)
+    taking_gone o new nameless less = record {
       agree = λ n. less n ∙ (ap (λ (b : Bool). not (is_there n (name_in x)) && b) (t.agree n) ∙ by_test n (is_there n (name_in x)) (ap (has_name n) is));
       apart = λ i j n a b. t.apart i j n (was n i a) (was n j b);
     } where
-      was : (n : Name) (i : ℕ) → has_name n (get_or (slice_set os k None) i None) ≡ true → has_name n (get_or os i None) ≡ true
+      not_here : (n : Name) (i : ℕ) → has_name n (get_or (slice_set os k o) i None) ≡ true → i ≡ k → ⊥
+      not_here n i a e = false≢true (sym (nameless n) ∙ (ap (has_name n) (sym (here o) ∙ ap (λ (m : ℕ). get_or (slice_set os k o) m None) (sym e)) ∙ a))
+
+      was : (n : Name) (i : ℕ) → has_name n (get_or (slice_set os k o) i None) ≡ true → has_name n (get_or os i None) ≡ true
       was n i a = elim (same_or_not i k) as (λ w. has_name n (get_or os i None) ≡ true) [
-        | inl e ↦ absurd (false≢true (ap (has_name n) (sym (here None) ∙ ap (λ (m : ℕ). get_or (slice_set os k None) m None) (sym e)) ∙ a))
-        | inr ne ↦ ap (has_name n) (sym (get_or-set_other os k i None None ne)) ∙ a
+        | inl e ↦ absurd (not_here n i a e)
+        | inr ne ↦ ap (has_name n) (sym (get_or-set_other os k i o None ne)) ∙ a
       ]
 
-      by_test : (n : Name) (b : Bool) → has_name n (get_or os k None) ≡ b → (not b && is_taken os n) ≡ is_taken (slice_set os k None) n
-      by_test n true h = sym (none_pass (has_name n) (slice_set os k None) None (λ i a.
-          let e : i ≡ k = t.apart i k n (was n i a) h in
-          false≢true (ap (has_name n) (sym (here None) ∙ ap (λ (m : ℕ). get_or (slice_set os k None) m None) (sym e)) ∙ a)))
-      by_test n false h = sym (any_same (has_name n) os k None None within (sym h))
+      by_test : (n : Name) (b : Bool) → has_name n (get_or os k None) ≡ b → (not b && is_taken os n) ≡ is_taken (slice_set os k o) n
+      by_test n true h = sym (none_pass (has_name n) (slice_set os k o) None (λ i a. not_here n i a (t.apart i k n (was n i a) h)))
+      by_test n false h = sym (any_same (has_name n) os k o None within (nameless n ∙ sym h))
 
     -- what a call makes of the object
     pub taking_called : (y : Object) (gained : Option Name) (new : Taken) → Gains x y gained → IsFree os gained
@@ -186,21 +188,33 @@ pub name_left : (r : Result (Answer × Raised) AllocError) (x y : Object) (e : E
 name_left (Ok p) x y e now asked nobody ok err = ap (λ (f : Effect Object). name_in f.1) ok ∙ nobody_named x e now asked nobody
 name_left (Err p) x y e now asked nobody ok err = ap name_in err
 
--- An end of an object closes, and the object goes where that was the last.
-pub taking_closed : (names new : Taken) (os : List (Option Object)) → Taking names os → (k : ℕ) (s : Shared) (e : End) → get_or os k None ≡ Some s.object → (freed : Option Name) → freed ≡ freed_with (other_key s e) (closed_in s e).object
-    → ((n : Name) → holds new n ≡ (not (is_there n freed) && holds names n)) → Taking new (slice_set os k (if is_some (other_key s e) then Some (close_end s.object e).0 else None))
-taking_closed names new os t k s e is freed f less = by_key (other_key s e) f where
-  same_name_then : name_in (closed_in s e).object ≡ name_in s.object
-  same_name_then = ap name_in (closed_object s e) ∙ close_keeps_name s.object e
+-- An end of an object closes, and the object goes where that was the last. A name that stays isn't freed.
+pub stays_named : (was now : Option Name) → now ≡ was → (if is_some now then None else was) ≡ None
+stays_named None now same = ap (λ (o : Option Name). if is_some o then None else None) same
+stays_named (Some name) now same = ap (λ (o : Option Name). if is_some o then None else Some name) same
+
+pub taking_closed : (names new : Taken) (os : List (Option Object)) → Taking names os → (k : ℕ) (s : Shared) (e : End) → get_or os k None ≡ Some s.object → (freed : Option Name)
+    → freed ≡ freed_if (remains s e) s.object (closed_in s e).object
+    → ((n : Name) → holds new n ≡ (not (is_there n freed) && holds names n)) → Taking new (slice_set os k (if remains s e then Some (close_end s.object e).0 else None))
+taking_closed names new os t k s e is freed f less = by_test (remains s e) f where
+  left : name_in (closed_in s e).object ≡ name_in (close_end s.object e).0
+  left = ap name_in (closed_object s e)
 
   without : (n : Name) (m : Option Name) → freed ≡ m → holds new n ≡ (not (is_there n m) && holds names n)
   without n m h = less n ∙ ap (λ (o : Option Name). not (is_there n o) && holds names n) h
 
-  by_key : (o : Option DescId) → freed ≡ freed_with o (closed_in s e).object → Taking new (slice_set os k (if is_some o then Some (close_end s.object e).0 else None))
-  by_key None h = taking_gone names os t k s.object is new (λ n. without n (name_in s.object) (h ∙ same_name_then))
-  by_key (Some key) h =
-      let kept = taking_kept names os t k s.object is (close_end s.object e).0 (close_keeps_name s.object e) in
-      record { agree = λ n. without n None h ∙ kept.agree n; apart = kept.apart }
+  gone : (o : Option Object) → ((n : Name) → has_name n o ≡ false) → freed ≡ name_in s.object → Taking new (slice_set os k o)
+  gone o nameless h = taking_gone names os t k s.object is o new nameless (λ n. without n (name_in s.object) h)
+
+  by_test : (b : Bool) → freed ≡ freed_if b s.object (closed_in s e).object → Taking new (slice_set os k (if b then Some (close_end s.object e).0 else None))
+  by_test false h = gone None (λ n. refl) h
+  by_test true h = elim (close_keeps_or_frees s.object e) [
+    | inl same ↦
+        let kept = taking_kept names os t k s.object is (close_end s.object e).0 same in
+        record { agree = λ n. without n None (h ∙ stays_named (name_in s.object) (name_in (closed_in s e).object) (left ∙ same)) ∙ kept.agree n; apart = kept.apart }
+    | inr none ↦
+        gone (Some (close_end s.object e).0) (λ n. ap (is_there n) none) (h ∙ ap (λ (o : Option Name). if is_some o then None else name_in s.object) (left ∙ none))
+  ]
 
 -- want of memory comes last
 last_if : (o : Option Errno) (x : Object) (f : Effect Object) (name : Name) → name_in x ≡ None → name_in (unless o x f).1 ≡ Some name → o ≡ None
@@ -225,33 +239,53 @@ none_found taken (Connect fd name) b l c = absurd (c fd name refl)
 none_found taken call b l c = refl
 
 -- nor is any other heard
-pub none_heard : (objects : List (Option Object)) (call : Call) → ((fd : Fd) (name : Name) → call ≡ Connect fd name → ⊥) → false ≡ is_heard objects call
+pub none_heard : (objects : List (Option Object)) (call : Call) → ((fd : Fd) (name : Name) → call ≡ Connect fd name → ⊥) → Nobody ≡ hearing objects call
 none_heard objects (Connect fd name) c = absurd (c fd name refl)
 none_heard objects call c = refl
 
--- Who listens at a name: its owner, or nobody.
-module _ (names : Taken) (os : List (Option Object)) (t : Taking names os) (name : Name) where
+-- Who hears at a name: its owner, or nobody.
+module _ (name : Name) where
   abbrev hears : Option Object → Bool
   hears o = listens_at name o
+
+  pub nobody_hears : (os : List (Option Object)) → ((j : ℕ) → hears (get_or os j None) ≡ true → ⊥) → hearing_in os name ≡ Nobody
+  nobody_hears [] none = refl
+  nobody_hears (o ∷ os) none = by_test (nobody_hears os (λ j. none (suc j))) (hears o) refl where
+    by_test : hearing_in os name ≡ Nobody → (b : Bool) → hears o ≡ b → (if b then heard_by o else hearing_in os name) ≡ Nobody
+    by_test later true h = absurd (none 0 h)
+    by_test later false h = later
+
+  one_hears : (os : List (Option Object)) (i : ℕ) → hears (get_or os i None) ≡ true → ((j : ℕ) → hears (get_or os j None) ≡ true → j ≡ i) → hearing_in os name ≡ heard_by (get_or os i None)
+  one_hears [] i h one = absurd cc
+  one_hears (o ∷ os) zero h one = ap (λ (b : Bool). if b then heard_by o else hearing_in os name) h
+  one_hears (o ∷ os) (suc i) h one = by_test (one_hears os i h (λ j k. let e = one (suc j) k in omega (arith, e))) (hears o) refl where
+    by_test : hearing_in os name ≡ heard_by (get_or os i None) → (b : Bool) → hears o ≡ b → (if b then heard_by o else hearing_in os name) ≡ heard_by (get_or os i None)
+    by_test later true first = let e = one 0 first in absurd (omega (arith, e))
+    by_test later false other = later
 
   -- who listens has the name
   named_there : (o : Option Object) → hears o ≡ true → has_name name o ≡ true
   named_there (Some (listener l)) h = h
   named_there o h = cc
 
-  listens_there : (x : Object) → is_there name (name_in x) ≡ true → hears (Some x) ≡ is_listener x
-  listens_there (listener l) h = h
-  listens_there x h = refl
+  -- who has it and doesn't listen, hears nobody
+  deaf : (x : Object) → is_there name (name_in x) ≡ true → hears (Some x) ≡ false → heard_by (Some x) ≡ Nobody
+  deaf (listener l) has h = absurd (false≢true (sym h ∙ has))
+  deaf x has h = refl
 
-  pub owner_listens : (i : ℕ) (x : Object) → get_or os i None ≡ Some x → has_name name (Some x) ≡ true → is_listener x ≡ list_any hears os
-  owner_listens i x is has = sym (listens_there x has) ∙ by_own (hears (Some x)) refl where
-    by_own : (b : Bool) → hears (Some x) ≡ b → b ≡ list_any hears os
-    by_own true h = sym (passes_there hears os i None refl (ap hears is ∙ h))
-    by_own false h = sym (none_pass hears os None (λ j a.
-        let e : j ≡ i = t.apart j i name (named_there (get_or os j None) a) (ap (has_name name) is ∙ has) in
-        false≢true (sym h ∙ (ap hears (sym is ∙ ap (λ (m : ℕ). get_or os m None) (sym e)) ∙ a))))
+  module _ (names : Taken) (os : List (Option Object)) (t : Taking names os) where
+    pub owner_hears : (i : ℕ) (x : Object) → get_or os i None ≡ Some x → has_name name (Some x) ≡ true → heard_by (Some x) ≡ hearing_in os name
+    owner_hears i x is has = by_own (hears (Some x)) refl where
+      its_own : (j : ℕ) → hears (get_or os j None) ≡ true → j ≡ i
+      its_own j a = t.apart j i name (named_there (get_or os j None) a) (ap (has_name name) is ∙ has)
 
-  pub nobody_listens : owner_of names name ≡ None → false ≡ list_any hears os
-  nobody_listens none = sym (none_pass hears os None (λ j a.
-      let taken : is_taken os name ≡ true = passes_there (has_name name) os j None refl (named_there (get_or os j None) a) in
-      false≢true (sym (ap is_some none) ∙ (t.agree name ∙ taken))))
+      by_own : (b : Bool) → hears (Some x) ≡ b → heard_by (Some x) ≡ hearing_in os name
+      by_own true h = sym (one_hears os i (ap hears is ∙ h) its_own ∙ ap heard_by is)
+      by_own false h =
+          deaf x has h ∙ sym (nobody_hears os (λ j a.
+          false≢true (sym h ∙ (ap hears (sym is ∙ ap (λ (m : ℕ). get_or os m None) (sym (its_own j a))) ∙ a))))
+
+    pub nobody_listens : owner_of names name ≡ None → Nobody ≡ hearing_in os name
+    nobody_listens none = sym (nobody_hears os (λ j a.
+        let taken : is_taken os name ≡ true = passes_there (has_name name) os j None refl (named_there (get_or os j None) a) in
+        false≢true (sym (ap is_some none) ∙ (t.agree name ∙ taken))))

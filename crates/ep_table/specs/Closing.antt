@@ -1,5 +1,5 @@
 -- An end of an object closes.
-use Rattle.std.specs.Prelude.{List, None, Option, Some, [], slice_set, ℕ, ◌∷◌, ◌≡◌, ◌≢◌}
+use Rattle.std.specs.Prelude.{Bool, List, None, Option, Some, [], false, is_some, slice_set, true, ℕ, ◌∷◌, ◌||◌, ◌≡◌, ◌≢◌}
 use Rattle.ep_base.specs.declared.ids.DescId.{DescId}
 use Rattle.ep_base.specs.declared.object.End.{End}
 use Rattle.ep_base.specs.declared.object.End.TheVariants.{First, Second}
@@ -7,7 +7,7 @@ use Rattle.ep_base.specs.declared.object.Raised.{Raised}
 use Rattle.ep_machine.specs.Bits.{nothing}
 use Rattle.ep_machine.specs.Deaths.{die}
 use Rattle.ep_machine.specs.Files.{Files, Place, place_of}
-use Rattle.ep_machine.specs.Objects.{close_end}
+use Rattle.ep_machine.specs.Objects.{close_end, is_waiting}
 use Rattle.ep_table.specs.Value.{Seen, Things, content_of, files_in, number_at, number_under}
 use Rattle.ep_table.specs.declared.words.Dead.{Dead}
 use Rattle.ep_table.specs.declared.words.Shared.{Shared}
@@ -35,14 +35,17 @@ abbrev pub closed_in : Shared → End → Shared
 closed_in s First = record s { object = (close_end s.object First).0; first = None }
 closed_in s Second = record s { object = (close_end s.object Second).0; second = None }
 
--- it goes where the other end has no description
-abbrev pub kept_with : Option DescId → Shared → Option Shared
-kept_with None s = None
-kept_with (Some key) s = Some s
+-- it stays where the other end has a description, or where somebody may accept that end
+abbrev pub remains : Shared → End → Bool
+remains s e = is_some (other_key s e) || is_waiting (closed_in s e).object
+
+abbrev pub kept_if : Bool → Shared → Option Shared
+kept_if true s = Some s
+kept_if false s = None
 
 abbrev pub closed_slot : Option Shared → End → Option Shared
 closed_slot None e = None
-closed_slot (Some s) e = kept_with (other_key s e) (closed_in s e)
+closed_slot (Some s) e = kept_if (remains s e) (closed_in s e)
 
 abbrev pub raised_slot : Option Shared → End → Raised
 raised_slot None e = nothing

@@ -1,12 +1,11 @@
 -- Which names of sockets are taken: those that objects have, each by one, whose key is kept.
-use Rattle.std.specs.Prelude.{◌≡◌, List, None, Option, Some, false, slice_index_or, true, ℕ}
-use Rattle.ep_base.specs.declared.ids.DescId.{DescId}
+use Rattle.std.specs.Prelude.{◌≡◌, Bool, List, None, Option, Some, false, if◌then◌else◌, is_some, slice_index_or, true, ℕ}
 use Rattle.ep_base.specs.declared.object.End.{End}
 use Rattle.ep_base.specs.declared.socket.Name.{Name}
 use Rattle.ep_machine.specs.Objects.{Object, ObjectCall, has_name, is_taken, name_in}
 use Rattle.ep_names.specs.Names.{Taken, holds, owner_of}
 use Rattle.ep_object.specs.Asked.{found_in}
-use Rattle.ep_table.specs.Closing.{closed_in, other_key}
+use Rattle.ep_table.specs.Closing.{closed_in, remains}
 use Rattle.ep_table.specs.declared.words.Shared.{Shared}
 
 -- no two objects have one name
@@ -34,11 +33,11 @@ IsFree objects (Some name) = is_taken objects name ≡ false
 abbrev pub FindsFree : List (Option Object) → ObjectCall → Type 0
 FindsFree objects asked = IsFree objects (found_in asked)
 
--- the name that goes with an object, where the other end has no description
-abbrev pub freed_with : Option DescId → Object → Option Name
-freed_with None x = name_in x
-freed_with (Some key) x = None
+-- the name that goes as an object x becomes y: with the object, unless it stays, or before it
+abbrev pub freed_if : Bool → Object → Object → Option Name
+freed_if false x y = name_in x
+freed_if true x y = if is_some (name_in y) then None else name_in x
 
 abbrev pub freed_slot : Option Shared → End → Option Name
 freed_slot None e = None
-freed_slot (Some s) e = freed_with (other_key s e) (closed_in s e).object
+freed_slot (Some s) e = freed_if (remains s e) s.object (closed_in s e).object

@@ -1,8 +1,7 @@
 //! Open file descriptions and their objects.
 ghost use Rattle.std.specs.Prelude.{◌≡◌, ◌+◌, ◌<◌, ◌≤◌, ◌^◌, [], false, IfNone, IfOk, IfSome, IsOk, IsSome, None};
-ghost use Rattle.std.specs.Prelude.{OnErr, OnOk, Some, length, map, min, slice_index_or, slice_set, vec_capacity};
+ghost use Rattle.std.specs.Prelude.{OnErr, OnOk, Some, length, is_some, map, min, slice_index_or, slice_set, vec_capacity};
 ghost use Rattle.std.specs.Prelude.{if◌then◌else◌, ℕ};
-ghost use Rattle.std.specs.List.{list_any};
 ghost use Rattle.slab.specs.Slab.{HasRoomFor, slab_len};
 ghost use Rattle.std.specs.Map.Iter.{ShowsInOrder};
 ghost use Rattle.ep_base.specs.declared.ids.DescId.{DescId};
@@ -13,7 +12,8 @@ ghost use Rattle.ep_object.specs.Asked.{takes_name};
 ghost use Rattle.ep_object.specs.Memory.{asked_of};
 ghost use Rattle.ep_base.specs.declared.socket.Name.{Name as the_name};
 ghost use Rattle.ep_machine.specs.Names.{is_there};
-ghost use Rattle.ep_machine.specs.Objects.{close_end, found_for, is_heard, is_taken, listens_at, name_in};
+ghost use Rattle.ep_machine.specs.Objects.{close_end, found_for, hearing, hearing_in, is_taken, name_in};
+ghost use Rattle.ep_object.specs.Quiet.{IsQuiet};
 ghost use Rattle.ep_names.specs.Names.{holds, owner_of};
 ghost use Rattle.ep_table.specs.Taking.{FindsFree, freed_slot};
 ghost use Rattle.ep_table.specs.Closing.{Dies, IsAt, across, closed_in, closed_slot, other_key, other_slot, raised_slot};
@@ -25,7 +25,7 @@ ghost use Rattle.ep_table.specs.Value.{thing_waiting};
 use crate::dying_keys::DyingKeys;
 use crate::live::Live;
 use crate::words::{Dead, Description, Dying, Shared};
-use ep_base::{Answer, Call, DescId, End, Moment, Name, Raised, Space};
+use ep_base::{Answer, Call, DescId, End, Hearing, Moment, Name, Raised, Space};
 use ep_names::Names;
 use ep_object::{NamingCall, Object, ObjectCall};
 use slab::Slab;
@@ -80,8 +80,9 @@ fn reserve<A: Allocator>(
     Ok(())
 }
 
-/// Closes an end of an object, which goes where that was the last: what that raised, the key of the description of
-/// the other end, and the name that went with the object.
+/// Closes an end of an object, which goes where that was the last, unless somebody may accept the other: what that
+/// raised, the key of the description of the other end, and the name that went with the object, or with the end that
+/// closed.
 fn close<A: Allocator>(
     objects: &mut Slab<Shared, A>,
     at: usize,
@@ -96,13 +97,25 @@ fn close<A: Allocator>(
     ensures name { result.2 ≡ freed_slot (slice_index_or objects.old.slots at None) end }
 {
     let shared = &mut objects[at];
+    let name = shared.object.name();
     let raised = close_shared(shared, end);
     let other = other_in(shared, end);
-    if other.is_some() {
-        return (raised, other, None);
+    if other.is_some() || shared.object.is_waiting() {
+        let freed = lost_name(name, shared.object.name());
+        return (raised, other, freed);
     }
-    let name = objects.remove(at).object.name();
+    objects.remove(at);
     (raised, other, name)
+}
+
+/// The name that was there and is no more.
+fn lost_name(before: Option<Name>, after: Option<Name>) -> Option<Name>
+    ensures { result ≡ (if is_some after then None else before) }
+{
+    match after {
+        Some(_) => None,
+        None => before,
+    }
 }
 
 fn close_shared(shared: &mut Shared, end: End) -> Raised
@@ -247,30 +260,31 @@ impl<A: Allocator> Store<A> {
         }
     }
 
-    /// Whether a socket listens at this name.
-    fn hears(&self, name: Name) -> bool
-        ensures { result ≡ list_any (listens_at name) self.now.objects }
+    /// Who hears a connect by this name: the one socket that has it, if it listens.
+    fn hears(&self, name: Name) -> Hearing
+        ensures { result ≡ hearing_in self.now.objects name }
     {
         match self.taken.owner(name) {
-            Some(at) => self.objects[at].object.is_listener(),
-            None => false,
+            Some(at) => self.objects[at].object.hearing(),
+            None => Hearing::Nobody,
         }
     }
 
-    /// Whether a socket listens at the name by which a call connects.
-    pub fn is_heard(&self, call: &Call) -> bool
-        ensures { result ≡ is_heard self.now.objects call.now }
+    /// Who hears a call by the name by which it connects; any other call nobody.
+    pub fn hearing(&self, call: &Call) -> Hearing
+        ensures { result ≡ hearing self.now.objects call.now }
     {
         match *call {
             Call::Connect { name, .. } => self.hears(name),
-            _ => false,
+            _ => Hearing::Nobody,
         }
     }
 
     /// A new object with one description that has one name, or nothing changed where there is no
-    /// memory or no number left. No object has a name from the start.
+    /// memory or no number left. No object has a name from the start, or a connection that waits.
     pub fn insert(&mut self, object: Object) -> Result<DescId, AllocError>
-        requires { name_in object ≡ None }
+        requires unnamed { name_in object ≡ None }
+        requires quiet { IsQuiet object }
         ensures ok { IfOk result (λ key. InsertsOne self.old self.new key object) }
         ensures err { OnErr result (self.new ≡ self.old) }
     {
@@ -290,8 +304,6 @@ impl<A: Allocator> Store<A> {
             names: 1,
             holds: 0,
         });
-        // (only the prover needs it)
-        object.is_quiet();
         self.objects.insert_reserved(Shared {
             number: self.made,
             object,
@@ -306,7 +318,8 @@ impl<A: Allocator> Store<A> {
     /// A new object with a description of each end that have one name each, or nothing changed where
     /// there is no memory or no number left.
     pub fn insert_two(&mut self, object: Object) -> Result<(DescId, DescId), AllocError>
-        requires { name_in object ≡ None }
+        requires unnamed { name_in object ≡ None }
+        requires quiet { IsQuiet object }
         ensures ok { IfOk result (λ keys. InsertsTwo self.old self.new keys.0 keys.1 object) }
         ensures err { OnErr result (self.new ≡ self.old) }
     {
@@ -336,8 +349,6 @@ impl<A: Allocator> Store<A> {
             holds: 0,
         });
         self.described += 1;
-        // (only the prover needs it)
-        object.is_quiet();
         self.objects.insert_reserved(Shared {
             number: self.made,
             object,

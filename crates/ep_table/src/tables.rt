@@ -9,9 +9,11 @@ ghost use Rattle.ep_machine.specs.Effect.{first};
 ghost use Rattle.ep_machine.specs.Lists.{is_among, numbered};
 ghost use Rattle.ep_machine.specs.Files.{named_by, numbers_of, object_of, opening_files, place_of, side_of, table_of, under};
 ghost use Rattle.ep_machine.specs.Bits.{raises};
-ghost use Rattle.ep_machine.specs.Objects.{advance, found_for, is_heard, is_taken, name_in, object_present};
+ghost use Rattle.ep_machine.specs.Objects.{advance, found_for, hearing, is_taken, name_in, object_present};
+ghost use Rattle.ep_object.specs.Quiet.{IsQuiet};
 ghost use Rattle.ep_machine.specs.FilesCalls.{accept_of, close_of, dup2_of, dup_of, fork_of, one_of, pipe_of, socketpair_of, two_of};
-ghost use Rattle.ep_machine.specs.Tables.{close, create_refusals, dup, exec, exit, fork, is_in_range, one_refusals, second_free, two_refusals};
+ghost use Rattle.ep_machine.specs.Tables.{close, create_refusals, dup, exec, exit, fork, is_in_range};
+ghost use Rattle.ep_machine.specs.Tables.{one_refusals, second_free, two_refusals};
 ghost use Rattle.ep_table.specs.Closing.{IsAt, Takes, across};
 ghost use Rattle.ep_table.specs.Live.{live_ids};
 ghost use Rattle.ep_table.specs.Value.{CreatesOne, CreatesTwo, Does, Gains, Sound, content_of, effect_under};
@@ -32,7 +34,9 @@ use crate::processes::{
 use crate::store::Store;
 use crate::table::Table;
 use crate::words::{Dead, Descriptor};
-use ep_base::{Answer, Call, DescId, End, Errno, Fd, Limits, Mask, Moment, Name, Pid, Raised};
+use ep_base::{
+    Answer, Call, DescId, End, Errno, Fd, Hearing, Limits, Mask, Moment, Name, Pid, Raised,
+};
 use ep_object::{NamingCall, Object, ObjectCall};
 use std::alloc::{AllocError, Allocator, Global};
 use std::marker::Model;
@@ -182,6 +186,7 @@ impl<A: Allocator> Tables<A> {
     fn add_one(&mut self, pid: Pid, cloexec: bool, object: Object) -> Result<(), AllocError>
         requires process { IsSome (table_of self.old.files pid.0) }
         requires unnamed { name_in object ≡ None }
+        requires quiet { IsQuiet object }
         ensures ok { OnOk result (CreatesOne self.old self.new pid.0 object cloexec) }
         ensures err { OnErr result (self.new ≡ self.old) }
     {
@@ -203,6 +208,7 @@ impl<A: Allocator> Tables<A> {
     fn add_two(&mut self, pid: Pid, cloexec: bool, object: Object) -> Result<(), AllocError>
         requires process { IsSome (table_of self.old.files pid.0) }
         requires unnamed { name_in object ≡ None }
+        requires quiet { IsQuiet object }
         ensures ok { OnOk result (CreatesTwo self.old self.new pid.0 object cloexec) }
         ensures err { OnErr result (self.new ≡ self.old) }
     {
@@ -229,6 +235,7 @@ impl<A: Allocator> Tables<A> {
     pub fn create(&mut self, pid: Pid, cloexec: bool, object: Object) -> Result<Answer, AllocError>
         requires process { IsSome (table_of self.old.files pid.0) }
         requires unnamed { name_in object ≡ None }
+        requires quiet { IsQuiet object }
         ensures ok { IfOk result
             (λ answer. Does (one_of self.old.limits self.old.files pid.0 object cloexec) answer
             self.old self.new) }
@@ -248,6 +255,7 @@ impl<A: Allocator> Tables<A> {
     fn create_two(&mut self, pid: Pid, cloexec: bool, object: Object) -> Result<Answer, AllocError>
         requires process { IsSome (table_of self.old.files pid.0) }
         requires unnamed { name_in object ≡ None }
+        requires quiet { IsQuiet object }
         requires free { first (two_refusals self.old.limits self.old.files pid.0) ≡ None }
         requires small { second_free (numbers_of self.old.files pid.0) < 65536 }
         ensures ok { IfOk result
@@ -460,7 +468,7 @@ impl<A: Allocator> Tables<A> {
             return Errno::Enotsock;
         }
         // (only the prover needs it)
-        object.is_quiet();
+        self.known();
         match self.refuses_one(pid) {
             Some(errno) => errno,
             None if object.is_listener() => Errno::Eagain,
@@ -692,11 +700,11 @@ impl<A: Allocator> Tables<A> {
         self.store.found_for(call)
     }
 
-    /// Whether a socket listens at the name by which a call connects; no other call is heard.
-    pub fn is_heard(&self, call: &Call) -> bool
-        ensures { result ≡ is_heard self.now.files.objects call.now }
+    /// Who hears a call by the name by which it connects; any other call nobody.
+    pub fn hearing(&self, call: &Call) -> Hearing
+        ensures { result ≡ hearing self.now.files.objects call.now }
     {
-        self.store.is_heard(call)
+        self.store.hearing(call)
     }
 
     /// A call on the object of a live description, at its end, by which no socket gets a name: what it is answered at

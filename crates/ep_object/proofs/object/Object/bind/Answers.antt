@@ -4,6 +4,7 @@ use Rattle.ep_base.specs.declared.socket.Family.{Family}
 use Rattle.ep_machine.specs.Bits.{nothing}
 use Rattle.ep_machine.specs.Effect.{first}
 use Rattle.ep_machine.specs.Objects.{bind, bind_refusals, idle, listener, of_socket, pair}
+use Rattle.ep_machine.specs.Sockets.{SocketPair}
 use Rattle.ep_machine.specs.Unconnected.{family_refusals, idle_bind, idle_bind_refusals}
 use Rattle.ep_object.proofs.WrapLemmas.{refused_by, wrapped}
 use Rattle.ep_object.proofs.object.Object.bind.Goals as goal
@@ -13,10 +14,10 @@ use Rattle.ep_object.specs.Content.{content_of}
 pub returns : goal.returns
 returns c = elim c.match-self.branch [
   | in-Pair w ↦
-      let p = w.in-Pair.pair in
+      let p = w.in-Pair.pair.value in
       let view : pair p ≡ c.args.self.now = ap content_of (sym w.in-Pair.is) ∙ c.self.view_is in
       let errno = w.misfit_or.result in
-      let refusal = subst (λ (f : Family). first (family_refusals f c.args.space ++ (true, Einval) ∷ []) ≡ Some errno) w.family.ensures w.misfit_or.ensures in
+      let refusal = subst (λ (f : Family). first (family_refusals f c.args.space ++ (true, Einval) ∷ []) ≡ Some errno) (w.family.ensures ∙ ap (λ (q : SocketPair). q.family) w.deref.ensures) w.misfit_or.ensures in
       rw (w.result-is, w.self-inside-is, ← view)
       (refused_by (pair p) (of_socket (pair p) (bind_refusals (pair p) c.args.space c.args.found)) (bind (pair p) c.args.found) errno w.refused.result.0 w.refused.result.1 refusal w.refused.ensures.answer w.refused.ensures.raised)
   | in-Idle w ↦

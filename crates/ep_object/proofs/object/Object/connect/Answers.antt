@@ -10,7 +10,7 @@ use Rattle.ep_object.specs.Content.{content_of}
 pub returns : goal.returns
 returns c = elim c.match-self.branch [
   | in-Pair w ↦
-      let p = w.in-Pair.field-0 in
+      let p = w.in-Pair.field-0.value in
       let view : pair p ≡ c.args.self.now = ap content_of (sym w.in-Pair.is) ∙ c.self.view_is in
       let refusals = of_socket (pair p) (connect_refusals (pair p) c.args.space c.args.found c.args.heard) in
       let answers = refused_by (pair p) refusals (connect (pair p) c.args.found) w.unheard_or.result w.refused.result.0 w.refused.result.1 w.unheard_or.ensures w.refused.ensures.answer w.refused.ensures.raised in

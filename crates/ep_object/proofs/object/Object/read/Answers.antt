@@ -19,8 +19,8 @@ returns-clause-ok c = elim c.match-self.branch [
       rw (w.result-is, w.self-inside-is, ← view)
       (ok_wrapped pipe p made.new.self (pipe_read p c.args.n) (pipe_read_refusals p c.args.end c.args.n) made.result made.ensures.ok)
   | in-Pair w ↦
-      let p = w.in-Pair.pair in
-      let view : pair p ≡ c.args.self.now = ap content_of (sym w.in-Pair.is) ∙ c.self.view_is in
+      let p = w.deref_mut.result.now in
+      let view : pair p ≡ c.args.self.now = ap pair w.deref_mut.ensures.value ∙ ap content_of (sym w.in-Pair.is) ∙ c.self.view_is in
       let made = w.read-in-Pair in
       rw (w.result-is, w.self-inside-is, ← view)
       (ok_wrapped pair p made.new.self (pair_read p c.args.end c.args.n) (pair_read_refusals p c.args.end c.args.n) made.result made.ensures.ok)

@@ -11,8 +11,8 @@ returns c = elim c.match-self.branch [
   | in-Plain w ↦ search rules
   | in-Pipe w ↦ search rules
   | in-Pair w ↦
-      let p = w.in-Pair.pair in
-      let view : pair p ≡ c.args.self.now = ap content_of (sym w.in-Pair.is) ∙ c.self.view_is in
+      let p = w.deref_mut.result.now in
+      let view : pair p ≡ c.args.self.now = ap pair w.deref_mut.ensures.value ∙ ap content_of (sym w.in-Pair.is) ∙ c.self.view_is in
       let made = w.write-in-Pair in
       rw (w.result-is, w.self-inside-is, ← view)
       (wrapped pair p made.new.self (pair_write p c.args.end c.args.bytes.now) (pair_write_refusals p c.args.end c.args.bytes.now) made.result.0 made.result.1 made.ensures)

@@ -1,10 +1,9 @@
 use Rattle.std.proofs.Common.{ap, sym, Option, Some, true, ◌∙◌, ◌≡◌}
-use Rattle.std.specs.List.{list_any}
-use Rattle.ep_machine.specs.Objects.{has_name, listens_at}
+use Rattle.ep_machine.specs.Objects.{has_name, hearing_in}
 use Rattle.ep_names.specs.Names.{owner_of}
 use Rattle.ep_table.proofs.ByNumberLemmas.{content_there}
 use Rattle.ep_table.proofs.OwnersLemmas.{owner_there}
-use Rattle.ep_table.proofs.TakingLemmas.{nobody_listens, owner_listens}
+use Rattle.ep_table.proofs.TakingLemmas.{nobody_listens, owner_hears}
 use Rattle.ep_table.specs.Stored.{object_in, object_number_in, objects}
 use Rattle.ep_table.specs.Taking.{object_slot}
 use Rattle.ep_table.specs.Value.{Things}
@@ -22,12 +21,12 @@ returns-in-Some g c =
     let has : has_name c.args.name (Some s.object) ≡ true =
     ap (λ (o : Option Shared). has_name c.args.name (object_slot o)) (sym c.index.ensures) ∙ c.self.invariant.owners c.args.name c.in-Some.at owned in
     let there = content_there object_number_in object_in k.objects.slots k.made c.self.invariant.objects c.in-Some.at s c.index.ensures in
-    c.is_listener.ensures
-    ∙ (owner_listens k.taken (objects k.objects.slots k.made) c.self.invariant.taken c.args.name s.number s.object there has
-    ∙ ap (λ (v : Things). list_any (listens_at c.args.name) v.objects) c.self.view_is)
+    c.hearing.ensures
+    ∙ (owner_hears c.args.name k.taken (objects k.objects.slots k.made) c.self.invariant.taken s.number s.object there has
+    ∙ ap (λ (v : Things). hearing_in v.objects c.args.name) c.self.view_is)
 
 pub returns-in-None : goal.returns-in-None
 returns-in-None g c =
     let k = c.self.inside in
-    nobody_listens k.taken (objects k.objects.slots k.made) c.self.invariant.taken c.args.name (sym c.owner.ensures ∙ c.in-None.is)
-    ∙ ap (λ (v : Things). list_any (listens_at c.args.name) v.objects) c.self.view_is
+    nobody_listens c.args.name k.taken (objects k.objects.slots k.made) c.self.invariant.taken (sym c.owner.ensures ∙ c.in-None.is)
+    ∙ ap (λ (v : Things). hearing_in v.objects c.args.name) c.self.view_is

@@ -57,9 +57,9 @@ invariant_of-self-2 g c =
       queue = subst (λ (xs : List ℕ). Queue (places c.insert_reserved-key.new.self.slots (k.described + 1)) (counts names_in c.insert_reserved-key.new.self.slots (k.described + 1)) (counts holds_in c.insert_reserved-key.new.self.slots (k.described + 1)) xs) (sym (ap queued c.reserve.ensures.dying)) (queue_one k.descriptions.slots c.insert_reserved-key.new.self.slots k.objects.slots c.insert_reserved.new.self.slots k.described k.made c.insert_reserved-key.result c.vacant_key-at.result c.args.object a b h (queued k.dying.items) c.self.invariant.queue);
       keyed = subst (λ (xs : List Dying). AllKeyed (map key_number c.insert_reserved-key.new.self.slots) xs) (sym c.reserve.ensures.dying) (keyed_more (map key_number k.descriptions.slots) (map key_number c.insert_reserved-key.new.self.slots) (record { 0 = c.insert_reserved-key.result }) k.described (keys_more k.descriptions.slots c.insert_reserved-key.new.self.slots c.insert_reserved-key.result (record { number = k.described; object_number = k.made; object = c.vacant_key-at.result; end = First; names = 1; holds = 0 }) a) k.dying.items c.self.invariant.keyed);
       fewer = fewer_one k.descriptions.slots c.insert_reserved-key.new.self.slots k.objects.slots c.insert_reserved.new.self.slots k.described k.made c.insert_reserved-key.result c.vacant_key-at.result c.args.object a b h k.named c.self.invariant.fewer;
-      taken = subst (λ (xs : List (Option Object)). Taking k.taken xs) (sym (objects_one k.descriptions.slots c.insert_reserved-key.new.self.slots k.objects.slots c.insert_reserved.new.self.slots k.described k.made c.insert_reserved-key.result c.vacant_key-at.result c.args.object a b h)) (taking_push k.taken (objects k.objects.slots k.made) c.self.invariant.taken c.args.object c.requires);
+      taken = subst (λ (xs : List (Option Object)). Taking k.taken xs) (sym (objects_one k.descriptions.slots c.insert_reserved-key.new.self.slots k.objects.slots c.insert_reserved.new.self.slots k.described k.made c.insert_reserved-key.result c.vacant_key-at.result c.args.object a b h)) (taking_push k.taken (objects k.objects.slots k.made) c.self.invariant.taken c.args.object c.requires.unnamed);
       owners = owners_more k.taken k.objects.slots c.insert_reserved.new.self.slots c.vacant_key-at.result _ (shared g c) c.self.invariant.owners;
-      quiet = quiet_more k.objects.slots c.insert_reserved.new.self.slots c.vacant_key-at.result _ (shared g c) c.is_quiet.ensures c.self.invariant.quiet;
+      quiet = quiet_more k.objects.slots c.insert_reserved.new.self.slots c.vacant_key-at.result _ (shared g c) c.requires.quiet c.self.invariant.quiet;
     }
 
 pub returns-clause-ok : goal.returns-clause-ok

@@ -61,9 +61,9 @@ invariant_of-self-2 g c =
       keyed = subst (λ (xs : List Dying). AllKeyed (map key_number c.insert_reserved-second.new.self.slots) xs) (sym c.reserve.ensures.dying) (keyed_more (map key_number c.insert_reserved-first.new.self.slots) (map key_number c.insert_reserved-second.new.self.slots) (record { 0 = c.insert_reserved-second.result }) (k.described + 1) (keys_more c.insert_reserved-first.new.self.slots c.insert_reserved-second.new.self.slots c.insert_reserved-second.result (record { number = k.described + 1; object_number = k.made; object = c.vacant_key-at.result; end = Second; names = 1; holds = 0 }) (second_in g c)) k.dying.items
           (keyed_more (map key_number k.descriptions.slots) (map key_number c.insert_reserved-first.new.self.slots) (record { 0 = c.insert_reserved-first.result }) k.described (keys_more k.descriptions.slots c.insert_reserved-first.new.self.slots c.insert_reserved-first.result (record { number = k.described; object_number = k.made; object = c.vacant_key-at.result; end = First; names = 1; holds = 0 }) (first_in g c)) k.dying.items c.self.invariant.keyed));
       fewer = fewer_two k.descriptions.slots c.insert_reserved-first.new.self.slots c.insert_reserved-second.new.self.slots k.objects.slots c.insert_reserved.new.self.slots k.described k.made c.insert_reserved-first.result c.insert_reserved-second.result c.vacant_key-at.result c.args.object (first_in g c) (second_in g c) (shared_in g c) h k.named c.self.invariant.fewer;
-      taken = subst (λ (xs : List (Option Object)). Taking k.taken xs) (sym (objects_two k.descriptions.slots c.insert_reserved-first.new.self.slots c.insert_reserved-second.new.self.slots k.objects.slots c.insert_reserved.new.self.slots k.described k.made c.insert_reserved-first.result c.insert_reserved-second.result c.vacant_key-at.result c.args.object (first_in g c) (second_in g c) (shared_in g c) h)) (taking_push k.taken (objects k.objects.slots k.made) c.self.invariant.taken c.args.object c.requires);
+      taken = subst (λ (xs : List (Option Object)). Taking k.taken xs) (sym (objects_two k.descriptions.slots c.insert_reserved-first.new.self.slots c.insert_reserved-second.new.self.slots k.objects.slots c.insert_reserved.new.self.slots k.described k.made c.insert_reserved-first.result c.insert_reserved-second.result c.vacant_key-at.result c.args.object (first_in g c) (second_in g c) (shared_in g c) h)) (taking_push k.taken (objects k.objects.slots k.made) c.self.invariant.taken c.args.object c.requires.unnamed);
       owners = owners_more k.taken k.objects.slots c.insert_reserved.new.self.slots c.vacant_key-at.result _ (shared_in g c) c.self.invariant.owners;
-      quiet = quiet_more k.objects.slots c.insert_reserved.new.self.slots c.vacant_key-at.result _ (shared_in g c) c.is_quiet.ensures c.self.invariant.quiet;
+      quiet = quiet_more k.objects.slots c.insert_reserved.new.self.slots c.vacant_key-at.result _ (shared_in g c) c.requires.quiet c.self.invariant.quiet;
     }
 
 pub returns-clause-ok : goal.returns-clause-ok
