@@ -4,7 +4,8 @@ use crate::counters::{at, is_value};
 use crate::streams::{MANY, are_many};
 use ep_base::End::{First, Second};
 use ep_base::{
-    Answer, Buffer, Call, End, Errno, Family, Fd, How, Mask, Moment, Name, Raised, Space, Span,
+    Answer, Buffer, Call, End, Errno, Family, Fd, Hearing, How, Mask, Moment, Name, Raised, Space,
+    Span,
 };
 use ep_object::{NamingCall, Object, ObjectCall};
 use std::alloc::{AllocError, Global};
@@ -39,7 +40,7 @@ fn ask_with(
     call: &Call,
     found: Option<Name>,
 ) -> Result<(Answer, Raised), AllocError> {
-    let (_, asked) = NamingCall::of(call, found, false);
+    let (_, asked) = NamingCall::of(call, found, Hearing::Nobody);
     Ok(socket.apply_naming(&asked))
 }
 
@@ -254,7 +255,7 @@ fn a_socket_comes_to_listen(rt: HostRuntime) -> Result<(), Fail> {
     let (refused, _) = ask_with(&mut socket, &listen(4), None)?;
     assert!(rt; refused == Answer::Refused(Errno::Eaddrinuse) && !socket.is_listener());
     let call = listen(4);
-    let (_, asked) = NamingCall::of(&call, Some(PORT), false);
+    let (_, asked) = NamingCall::of(&call, Some(PORT), Hearing::Nobody);
     assert!(rt; socket.gains(&asked) == Some(PORT));
     let (done, raised) = ask_with(&mut socket, &call, Some(PORT))?;
     assert!(rt; done == Answer::Done && raised.first == Mask(0));
@@ -271,10 +272,45 @@ fn a_socket_comes_to_listen(rt: HostRuntime) -> Result<(), Fail> {
 fn a_heard_connect_is_refused(rt: HostRuntime) -> Result<(), Fail> {
     let mut socket = Object::socket(rt.alloc(), Family::Tcp);
     let call = connect(PORT);
-    let (_, asked) = NamingCall::of(&call, Some(PORT), true);
+    let (_, asked) = NamingCall::of(&call, Some(PORT), Hearing::Somebody);
     assert!(rt; socket.gains(&asked) == None);
     let (refused, _) = socket.apply_naming(&asked);
     assert!(rt; refused == Answer::Refused(Errno::Einval) && socket.name() == None);
+    Ok(())
+}
+
+/// A Unix socket is told who hears it: nobody, or a listener at which as many wait as may.
+#[test]
+fn a_unix_connect_is_told_who_hears(rt: HostRuntime) -> Result<(), Fail> {
+    let mut socket = Object::socket(rt.alloc(), Family::Unix);
+    let call = connect(Name {
+        space: Space::Local,
+        number: 7,
+    });
+    for (heard, errno) in [
+        (Hearing::Nobody, Errno::Econnrefused),
+        (Hearing::Full, Errno::Eagain),
+    ] {
+        let (_, asked) = NamingCall::of(&call, None, heard);
+        assert!(rt; socket.apply_naming(&asked).0 == Answer::Refused(errno));
+    }
+    Ok(())
+}
+
+/// One more than its backlog may wait at a listener, which can be read meanwhile.
+#[test]
+fn a_listener_fills(rt: HostRuntime) -> Result<(), Fail> {
+    let mut socket = Object::socket(rt.alloc(), Family::Tcp);
+    assert!(rt; socket.hearing() == Hearing::Nobody);
+    let _ = ask_with(&mut socket, &listen(1), Some(PORT))?;
+    assert!(rt; socket.hearing() == Hearing::Somebody && socket.pending(0) == None);
+    socket.push_pending(5)?;
+    assert!(rt; socket.hearing() == Hearing::Somebody && socket.present(First, at(0)) == Mask::IN);
+    socket.push_pending(9)?;
+    assert!(rt; socket.hearing() == Hearing::Full);
+    assert!(rt; socket.pending(0) == Some(5) && socket.pending(1) == Some(9));
+    socket.remove_pending(0);
+    assert!(rt; socket.hearing() == Hearing::Somebody && socket.pending(0) == Some(9));
     Ok(())
 }
 

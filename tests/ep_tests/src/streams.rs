@@ -2,7 +2,7 @@
 //! of `ep_examples`.
 
 use ep_base::End::{First, Second};
-use ep_base::{Answer, Buffer, End, Errno, How, Mask, Raised};
+use ep_base::{Answer, Buffer, End, Errno, How, Mask, Name, Raised, Space};
 use ep_stream::{Pipe, SockPair};
 use std::alloc::AllocError;
 use std::process::Abort;
@@ -201,7 +201,7 @@ fn a_peek_leaves_the_bytes(rt: HostRuntime) -> Result<(), Fail> {
 #[test]
 fn a_pair_tells_no_loss(rt: HostRuntime) -> Result<(), Fail> {
     let mut pair = SockPair::new(rt.alloc(), 64)?;
-    assert!(rt; pair.name().is_none() && pair.take_error(First) == Answer::Num(0));
+    assert!(rt; pair.name(First, true).is_none() && pair.take_error(First) == Answer::Num(0));
     assert!(rt; pair.write(Second, &Buffer::filled(7, 1)).0 == Answer::Num(1));
     assert!(rt; pair.close_end(First).second == Mask(8_209));
     assert!(rt; pair.present(Second) == Mask(8_213));
@@ -209,6 +209,26 @@ fn a_pair_tells_no_loss(rt: HostRuntime) -> Result<(), Fail> {
     let last = pair.close_end(Second);
     assert!(rt; last.first == Mask(0) && last.second == Mask(0));
     assert!(rt; pair.present(First) == pair.present(Second));
+    Ok(())
+}
+
+/// A connection has the listener's name at its second end, and tells once that bytes were lost with that.
+#[test]
+fn a_connection_tells_its_loss(rt: HostRuntime) -> Result<(), Fail> {
+    let name = Name {
+        space: Space::Local,
+        number: 7,
+    };
+    let mut pair = SockPair::connection(rt.alloc(), 64, None, name)?;
+    assert!(rt; pair.is_waiting() && pair.name(First, false) == None);
+    assert!(rt; pair.name(First, true) == Some(name) && pair.name(Second, false) == Some(name));
+    assert!(rt; pair.write(First, &Buffer::filled(7, 1)).0 == Answer::Num(1));
+    pair.accept();
+    assert!(rt; !pair.is_waiting());
+    assert!(rt; pair.close_end(Second).first == Mask(8_217));
+    assert!(rt; pair.present(First) == Mask(8_221));
+    assert!(rt; pair.take_error(First) == Answer::Num(104));
+    assert!(rt; pair.take_error(First) == Answer::Num(0));
     Ok(())
 }
 
