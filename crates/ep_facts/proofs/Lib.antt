@@ -3,3 +3,4 @@ pub mod NatFacts
 pub mod OptionFacts
 pub mod ListFacts
 pub mod AmongFacts
+pub mod RaisedFacts

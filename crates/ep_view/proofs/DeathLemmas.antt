@@ -20,7 +20,8 @@ use Rattle.ep_facts.proofs.BoolFacts.{or_left, or_right, same_bools}
 use Rattle.ep_base.specs.declared.object.Raised.{Raised}
 use Rattle.ep_machine.specs.Bits.{at_end, when}
 use Rattle.ep_machine.specs.Spread.{raised_of}
-use Rattle.ep_view.proofs.FreshLemmas.{deaths_raise, raised_live, raised_parts}
+use Rattle.ep_facts.proofs.RaisedFacts.{raised_live, raised_parts}
+use Rattle.ep_view.proofs.FreshLemmas.{deaths_raise}
 
 -- What is left once the descriptions that nothing names are dead.
 

@@ -17,6 +17,7 @@ use Rattle.std.proofs.lemmas.Nat.Bits.{bit_at_and, bit_at_or, same_from_bits}
 use Rattle.std.proofs.Math.Bool.{or-false, or-true}
 use Rattle.std.proofs.Math.Nat.{add-zero, add-zero as here, zero-add, zero-add as from_zero}
 use Rattle.ep_facts.proofs.BoolFacts.{both_true, same_bools}
+use Rattle.ep_facts.proofs.RaisedFacts.{raised_parts}
 use Rattle.ep_facts.proofs.NatFacts.{above_test, from_test, positive, same_nat, shift as next, zero_test}
 use Rattle.ep_machine.specs.Deaths.{die, die_all}
 use Rattle.ep_machine.specs.Lists.{numbered}
@@ -186,19 +187,6 @@ pub brings_either : (mask a b : ℕ) → brings mask (bit_or a b) ≡ (brings ma
 brings_either mask a b = wanted_either (asked mask every_shown_bit) a b
 
 -- What is raised by parts.
-or_assoc : (a b c : ℕ) → bit_or a (bit_or b c) ≡ bit_or (bit_or a b) c
-or_assoc a b c = same_from_bits (bit_or a (bit_or b c)) (bit_or (bit_or a b) c) (λ i.
-    bit_at_or a (bit_or b c) i
-    ∙ (ap (λ (n : ℕ). max (bit_at a i) n) (bit_at_or b c i)
-    ∙ (three (bit_at a i) (bit_at b i) (bit_at c i)
-    ∙ sym (bit_at_or (bit_or a b) c i ∙ ap (λ (n : ℕ). max n (bit_at c i)) (bit_at_or a b i))))) where
-      three : (x y z : ℕ) → max x (max y z) ≡ max (max x y) z
-      three x y z = omega arith
-
-pub raised_parts : (xs ys : List (ℕ × ℕ)) (d : ℕ) → raised_of (xs ++ ys) d ≡ bit_or (raised_of xs d) (raised_of ys d)
-raised_parts [] ys d = refl
-raised_parts (x ∷ xs) ys d = ap (bit_or (when (x.0 == d) x.1)) (raised_parts xs ys d) ∙ or_assoc (when (x.0 == d) x.1) (raised_of xs d) (raised_of ys d)
-
 joined : (n : ℕ) (a b p q : Bool) (x : KernelWatch) → stirred n (a || b) (p || q) x ≡ stirred n b q (stirred n a p x)
 joined n true true true true x = refl
 joined n true true true false x = refl
@@ -258,46 +246,3 @@ deaths_raise f rs (x ∷ xs) =
     deaths_raise next.0 (rs ++ next.1) xs
     ∙ (append_assoc rs next.1 (die_all (next.0, []) xs).1
     ∙ ap (λ (qs : List (ℕ × ℕ)). rs ++ qs) (sym (deaths_raise next.0 next.1 xs)))
-
--- What is raised at some of the live descriptions, by their places.
-module _ (chosen : Place → Bool) (bits : Place → ℕ) where
-  abbrev at_places : ℕ → List (Option Place) → List (ℕ × ℕ)
-  at_places k ds = map (λ x. (x.0, bits x.1)) (filter (λ x. chosen x.1) (numbered k ds))
-
-  abbrev pub raised_place : Option Place → ℕ
-  raised_place None = 0
-  raised_place (Some p) = when (chosen p) (bits p)
-
-  -- nothing is raised at a number below the first
-  below : (k d : ℕ) (ds : List (Option Place)) → d < k → raised_of (at_places k ds) d ≡ 0
-  below k d [] lt = refl
-  below k d (None ∷ ds) lt = below (k + 1) d ds (omega (arith, lt))
-  below k d (Some p ∷ ds) lt =
-      let rest = below (k + 1) d ds (omega (arith, lt)) in
-      elim (chosen p) as (λ b. raised_of (map (λ x. (x.0, bits x.1)) (cond b ((k, p) ∷ filter (λ x. chosen x.1) (numbered (k + 1) ds)) (filter (λ x. chosen x.1) (numbered (k + 1) ds)))) d ≡ 0) [
-        | true ↦ ap (λ (c : Bool). bit_or (when c (bits p)) (raised_of (at_places (k + 1) ds) d)) (above_test d k lt) ∙ rest
-        | false ↦ rest
-      ]
-
-  raised_from : (k j : ℕ) (ds : List (Option Place)) → raised_of (at_places k ds) (k + j) ≡ raised_place (get_or ds j None)
-  raised_from k j [] = refl
-  raised_from k zero (None ∷ ds) = below (k + 1) (k + 0) ds (omega arith)
-  raised_from k (suc j) (None ∷ ds) = ap (raised_of (at_places (k + 1) ds)) (sym (next k j)) ∙ raised_from (k + 1) j ds
-  raised_from k zero (Some p ∷ ds) =
-      let none = below (k + 1) k ds (omega arith) in
-      ap (raised_of (at_places k (Some p ∷ ds))) (here k)
-      ∙ elim (chosen p) as (λ b. raised_of (map (λ x. (x.0, bits x.1)) (cond b ((k, p) ∷ filter (λ x. chosen x.1) (numbered (k + 1) ds)) (filter (λ x. chosen x.1) (numbered (k + 1) ds)))) k ≡ when b (bits p)) [
-        | true ↦ (λ i. bit_or (when (same_nat k i) (bits p)) (none i)) ∙ or_zero_r (bits p)
-        | false ↦ none
-      ]
-  raised_from k (suc j) (Some p ∷ ds) =
-      let rest = ap (raised_of (at_places (k + 1) ds)) (sym (next k j)) ∙ raised_from (k + 1) j ds in
-      elim (chosen p) as (λ b. raised_of (map (λ x. (x.0, bits x.1)) (cond b ((k, p) ∷ filter (λ x. chosen x.1) (numbered (k + 1) ds)) (filter (λ x. chosen x.1) (numbered (k + 1) ds)))) (k + suc j) ≡ raised_place (get_or ds j None)) [
-        | true ↦ ap (λ (c : Bool). bit_or (when c (bits p)) (raised_of (at_places (k + 1) ds) (k + suc j))) (other k j) ∙ rest
-        | false ↦ rest
-      ] where
-        other : (a b : ℕ) → (a == a + suc b) ≡ false
-        other a b = grind (arith, nat_tests)
-
-  pub raised_live : (f : Files) (d : ℕ) → raised_of (map (λ x. (x.0, bits x.1)) (filter (λ x. chosen x.1) (live f))) d ≡ raised_place (get_or f.descriptions d None)
-  raised_live f d = ap (raised_of (at_places 0 f.descriptions)) (sym (from_zero d)) ∙ raised_from 0 d f.descriptions

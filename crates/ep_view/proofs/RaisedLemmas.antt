@@ -21,7 +21,8 @@ use Rattle.ep_machine.specs.Objects.{Object, close_end, instance, is_instance, p
 use Rattle.ep_object.proofs.KindLemmas.{close_keeps_instance, instance_is}
 use Rattle.ep_machine.specs.Spread.{is_reached, raised_alive, raised_of, reaching_of, spread}
 use Rattle.ep_machine.specs.State.{State}
-use Rattle.ep_view.proofs.FreshLemmas.{alive_raised, raised_live, raised_parts, raised_place}
+use Rattle.ep_facts.proofs.RaisedFacts.{raised_live, raised_parts, raised_place}
+use Rattle.ep_view.proofs.FreshLemmas.{alive_raised}
 
 -- An end that closes.
 close_raises : (x : Object) (e : End) → is_instance (close_end x e).0 ≡ true → (close_end x e).1 ≡ nothing
