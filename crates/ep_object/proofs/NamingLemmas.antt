@@ -1,14 +1,17 @@
 -- Only a bind and a connect give a name, and only a socket without a connection gets one. A close keeps it or frees it.
-use Rattle.std.proofs.Common.{◌≡◌, ◌==◌, ◌∙◌, ◌⊎◌, Bool, None, Option, Some, ap, false, if◌then◌else◌, inl, inr, refl, sym, true, ℕ, ℤ}
+use Rattle.std.proofs.lemmas.Bool.{false≢true}
+use Rattle.std.proofs.Common.{◌≡◌, ◌==◌, ◌∙◌, ◌⊎◌, Bool, None, Option, Some, ap, false, if◌then◌else◌, inl, inr, not, refl, sym, true, ℕ, ℤ}
 use Rattle.ep_base.specs.declared.errno.Errno.{Errno}
 use Rattle.ep_base.specs.declared.errno.Errno.TheVariants.{Econnreset}
 use Rattle.ep_base.specs.declared.object.End.{End}
 use Rattle.ep_base.specs.declared.object.End.TheVariants.{First, Second}
 use Rattle.ep_base.specs.declared.socket.Name.{Name}
 use Rattle.ep_machine.specs.Effect.{Effect, attempt, first, unless}
-use Rattle.ep_machine.specs.Objects.{Object, ObjectCall, listen, listens, asks_name, asks_time, close_end, idle, name_in, object_effect, object_refusals, pair, peeks, plain, reads, sets_time, shuts_down, takes_error, writes, is_idle, listener}
-use Rattle.ep_machine.specs.Sockets.{Socket, loses}
+use Rattle.ep_machine.specs.Objects.{Object, ObjectCall, listen, listens, asks_name, asks_time, close_end, idle, is_waiting, name_in, object_effect, object_refusals, pair, peeks, plain, reads, sets_time, shuts_down, takes_error, writes, is_idle, listener}
+use Rattle.ep_machine.specs.Sockets.{Socket, SocketPair, loses, pair_closed}
 use Rattle.ep_machine.specs.Unconnected.{Idle}
+use Rattle.ep_machine.specs.Connections.{accepted, with_pending}
+use Rattle.ep_object.specs.Connecting.{without_nth}
 use Rattle.ep_object.proofs.IdleLemmas.{by_read, by_write}
 use Rattle.ep_object.proofs.KindLemmas.{call_keeps_kind}
 use Rattle.ep_object.proofs.StandingLemmas.{Standing, call_keeps_standing, standing}
@@ -18,7 +21,7 @@ use Rattle.ep_base.specs.declared.call.Call.{Call}
 use Rattle.ep_base.specs.declared.call.Call.TheVariants.{Read}
 use Rattle.ep_machine.specs.Listening.{idle_listen_refusals, Listener}
 use Rattle.ep_object.specs.Asked.{asked_in, plain_call}
-use Rattle.ep_stream.proofs.PairClosed.{by_close}
+use Rattle.ep_stream.proofs.PairClosed.{by_close, by_first_close, either, first_closed, the_second}
 
 after : (refusal : Option Errno) (x : Object) (f : Effect Object) → name_in f.1 ≡ name_in x → name_in (unless refusal x f).1 ≡ name_in x
 after None x f h = h
@@ -101,3 +104,35 @@ close_keeps_or_frees (pair p) Second =
     (either_keeps (loses p Second) (name_in (pair p)) (record p.first_end { error = Some Econnreset }) p.first_end (inl refl) (inl refl))
 close_keeps_or_frees plain e = inl refl
 close_keeps_or_frees x e = inl refl
+
+-- The second end's close keeps the name, and the first end's frees it.
+pub second_keeps_name : (x : Object) → name_in (close_end x Second).0 ≡ name_in x
+second_keeps_name (pair p) = by_test p.first_end.is_closed refl where
+  by_test : (b : Bool) → p.first_end.is_closed ≡ b → name_in (pair (pair_closed p Second)) ≡ name_in (pair p)
+  by_test true h = ap (λ (q : SocketPair). name_in (pair q)) (the_second p Second h) ∙ ap (λ (c : Bool). if c then None else p.first_end.name) (sym h)
+  by_test false h =
+      by_first_close (λ q. name_in (pair q) ≡ name_in (pair p)) p Second (ap not h) refl refl refl
+      (either (λ (y : Socket). (if y.is_closed then None else y.name) ≡ name_in (pair p)) (loses p Second) (record p.first_end { error = Some Econnreset }) p.first_end refl refl)
+second_keeps_name plain = refl
+second_keeps_name x = refl
+
+pub first_closes_name : (x : Object) → is_waiting x ≡ true → name_in (close_end x First).0 ≡ None
+first_closes_name (pair p) h = ap (λ (c : Bool). if c then None else (pair_closed p First).first_end.name) (first_closed p)
+first_closes_name plain h = absurd (false≢true h)
+first_closes_name x h = absurd (false≢true h)
+
+-- Being accepted leaves it, and so does what comes to a listener, and what goes.
+pub accepted_name : (x : Object) → name_in (accepted x) ≡ name_in x
+accepted_name (pair p) = refl
+accepted_name plain = refl
+accepted_name x = refl
+
+pub pushed_name : (k : ℕ) (x : Object) → name_in (with_pending k x) ≡ name_in x
+pushed_name k (listener l) = refl
+pushed_name k plain = refl
+pushed_name k x = refl
+
+pub removed_name : (i : ℕ) (x : Object) → name_in (without_nth i x) ≡ name_in x
+removed_name i (listener l) = refl
+removed_name i plain = refl
+removed_name i x = refl

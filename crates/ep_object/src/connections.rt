@@ -1,5 +1,5 @@
 //! How objects take part in connections: who hears a connect, who waits, and what becomes of either.
-ghost use Rattle.std.specs.Prelude.{◌≡◌, IfOk, OnErr, OnOk, Some, slice_get};
+ghost use Rattle.std.specs.Prelude.{◌≡◌, ◌<◌, ◌^◌, IfOk, IfSome, OnErr, OnOk, Some, slice_get};
 ghost use Rattle.ep_machine.specs.Connections.{accepted, pending_in, with_pending};
 ghost use Rattle.ep_machine.specs.Objects.{heard_by, is_waiting};
 ghost use Rattle.ep_object.specs.Connecting.{IsUnix, connection_of, without_nth};
@@ -70,7 +70,8 @@ impl Object {
     /// The number of the connection before which so many others came to a listener; `None` if no more wait, and of any
     /// other object.
     pub fn pending(&self, index: usize) -> Option<u64>
-        ensures { result ≡ slice_get (pending_in self.now) index }
+        ensures number { result ≡ slice_get (pending_in self.now) index }
+        ensures within { IfSome result (λ number. index < 2 ^ 63) }
     {
         match &self.kind {
             Kind::Listener(listener) => listener.nth(index),

@@ -1,5 +1,5 @@
 //! Sockets that listen.
-ghost use Rattle.std.specs.Prelude.{◌≡◌, ◌++◌, ◌∷◌, [], OnErr, OnOk, Some, slice_get};
+ghost use Rattle.std.specs.Prelude.{◌≡◌, ◌++◌, ◌<◌, ◌^◌, ◌∷◌, [], IfSome, OnErr, OnOk, Some, slice_get};
 ghost use Rattle.std.specs.List.{remove};
 ghost use Rattle.ep_base.specs.declared.answer.Answer.TheVariants.{Bytes, Num};
 ghost use Rattle.ep_machine.specs.Bits.{nothing};
@@ -107,7 +107,8 @@ impl Listener {
 
     /// The number of the connection before which so many others came.
     pub(crate) fn nth(&self, index: usize) -> Option<u64>
-        ensures { result ≡ slice_get self.now.pending index }
+        ensures number { result ≡ slice_get self.now.pending index }
+        ensures within { IfSome result (λ number. index < 2 ^ 63) }
     {
         self.pending.get(index).copied()
     }

@@ -52,7 +52,7 @@ module _ (P : SocketPair → Type 0) (p : SocketPair) (e : End) where
   pub by_first_close : not (peer p e).is_closed ≡ true → P (plain_end p e) → P (lost_end p e) → P (shut_end p e) → P (told_end p e) → P (pair_closed p e)
   by_first_close lives plain lost shut told = of_else P (peer p e).is_closed (end_of p) _ lives (by_family plain lost shut told)
 
-the_second : (p : SocketPair) (e : End) → (peer p e).is_closed ≡ true → pair_closed p e ≡ end_of p
+pub the_second : (p : SocketPair) (e : End) → (peer p e).is_closed ≡ true → pair_closed p e ≡ end_of p
 the_second p e h = then_true (peer p e).is_closed (end_of p) _ h
 
 same_end : (p : SocketPair) (e : End) → end_of (pair_closed p e) ≡ end_of p
