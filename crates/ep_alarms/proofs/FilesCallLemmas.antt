@@ -18,7 +18,7 @@ use Rattle.ep_machine.specs.Timer.{Timer, new_timer}
 use Rattle.ep_alarms.proofs.AreSetLemmas.{timer_in}
 use Rattle.ep_object.specs.Next.{timer_of}
 use Rattle.ep_object.specs.Quiet.{IsQuiet}
-use Rattle.ep_table.proofs.QuietLemmas.{dup2_quiet, none_let_go}
+use Rattle.ep_table.proofs.QuietLemmas.{none_let_go}
 
 -- each description that is there has an object
 abbrev pub HaveObjects : Files → Type 0
@@ -119,6 +119,14 @@ none_waits f quiet (Some p) = (quiet p.object).alone
 none_goes : (f : Files) → AreQuiet f → (d : ℕ) → timer_in (without_abandoned f).0 d ≡ timer_in f d
 none_goes f quiet d = ap (λ (left : Files × List (ℕ × ℕ)). timer_in left.0 d) (none_let_go f quiet)
 
+-- another name of a description leaves the objects
+quiet_again : (f : Files) (p : ℕ) (fd to : ℤ) (e : ℕ) → AreQuiet f → AreQuiet (dup2 f p fd to e)
+quiet_again f p fd (negsuc k) e quiet = quiet
+quiet_again f p fd (pos k) e quiet = by_test (same_number fd (pos k)) where
+  by_test : (b : Bool) → AreQuiet (cond b f (with_table f p (place_at (numbers_of f p) k (slot e false))))
+  by_test true = quiet
+  by_test false = quiet
+
 -- a call that makes no timer leaves each
 pub others_left : (limits : Limits) (f : Files) (p : ℕ) (busy : Bool) (call : Call) → HaveObjects f → AreQuiet f → MakesNoTimer call → (d : ℕ) → timer_in (files_call limits f p busy call).after d ≡ timer_in f d
 others_left limits f p busy (PipeCall cloexec) objects quiet is d = two_other f _ p cloexec objects refl d
@@ -129,7 +137,7 @@ others_left limits f p busy (Plain cloexec) objects quiet is d = one_other f _ p
 others_left limits f p busy (EpollCreate cloexec) objects quiet is d = one_other f _ p cloexec objects refl d
 others_left limits f p busy (Dup2 fd to) objects quiet is d =
     let e = named_by f p fd.0 in
-    none_goes (dup2 f p fd.0 to.0 e) (dup2_quiet f p e fd.0 to.0 quiet) d ∙ name_again f p fd.0 to.0 e d
+    none_goes (dup2 f p fd.0 to.0 e) (quiet_again f p fd.0 to.0 e quiet) d ∙ name_again f p fd.0 to.0 e d
 others_left limits f p busy (Close fd) objects quiet is d = none_goes (close f p fd.0) quiet d
 others_left limits f p busy Exec objects quiet is d = none_goes (exec f p) quiet d
 others_left limits f p busy Exit objects quiet is d = none_goes (exit f p) quiet d

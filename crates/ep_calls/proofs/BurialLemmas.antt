@@ -20,7 +20,8 @@ use Rattle.ep_machine.specs.Lists.{is_among}
 use Rattle.ep_machine.specs.Objects.{close_end, plain}
 use Rattle.ep_view.specs.KernelView.{KernelWatch, freshened, stirred}
 use Rattle.ep_machine.specs.Spread.{raised_of}
-use Rattle.ep_view.proofs.FreshLemmas.{fresh_parts, raised_live, raised_place}
+use Rattle.ep_facts.proofs.RaisedFacts.{raised_live, raised_place}
+use Rattle.ep_view.proofs.FreshLemmas.{fresh_parts}
 use Rattle.ep_law.proofs.DeathLemmas.{ArePlaced, after_all, after_first, get_place, numbers, raised_before}
 use Rattle.ep_interest.specs.Registrations.{Registrations, is_apart_from, is_on}
 use Rattle.ep_interest.specs.declared.entry.Entry.{Entry}

@@ -19,7 +19,7 @@ use Rattle.ep_machine.specs.Spread.{raised_of}
 use Rattle.ep_machine.specs.State.{Change, State, Waiter}
 use Rattle.ep_machine.specs.Step.{call_change, object_change}
 use Rattle.ep_machine.specs.Tables.{affected_raises}
-use Rattle.ep_view.proofs.FreshLemmas.{raised_live, raised_place}
+use Rattle.ep_facts.proofs.RaisedFacts.{raised_live, raised_place}
 use Rattle.ep_calls.specs.ObjectCall.{object_effect_of}
 use Rattle.ep_calls.specs.Raising.{AsRaised, AsRaisedIn, Raises, RaisesByCall, object_bits, raised_bits}
 use Rattle.ep_calls.specs.Stands.{Stands}

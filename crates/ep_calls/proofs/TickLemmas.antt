@@ -15,7 +15,7 @@ use Rattle.ep_machine.specs.Spread.{raised_of}
 use Rattle.ep_machine.specs.State.{Change, State}
 use Rattle.ep_machine.specs.Timer.{last_moment}
 use Rattle.ep_machine.specs.Waits.{tick}
-use Rattle.ep_view.proofs.FreshLemmas.{raised_live, raised_place}
+use Rattle.ep_facts.proofs.RaisedFacts.{raised_live, raised_place}
 use Rattle.ep_calls.specs.Clock.{Sets, Ticks}
 use Rattle.ep_calls.specs.Moves.{RaisesEvent, StandFor}
 use Rattle.ep_calls.specs.Parts.{Parts}

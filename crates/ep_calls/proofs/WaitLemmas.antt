@@ -7,14 +7,14 @@ use Rattle.std.proofs.lemmas.List.Elements.{All-append, All-cons, All-nil}
 use Rattle.ep_base.specs.declared.answer.Answer.{Answer}
 use Rattle.ep_base.specs.declared.answer.Answer.TheVariants.{Parked}
 use Rattle.ep_base.specs.declared.errno.Errno.{Errno}
-use Rattle.ep_base.specs.declared.errno.Errno.TheVariants.{Einval}
+use Rattle.ep_base.specs.declared.errno.Errno.TheVariants.{Ebadf, Einval}
 use Rattle.ep_base.specs.declared.ids.DescId.{DescId}
 use Rattle.ep_interest.specs.Registrations.{Registrations}
 use Rattle.ep_interest.specs.declared.entry.Entry.{Entry}
 use Rattle.ep_machine.specs.Effect.{first}
 use Rattle.ep_base.specs.declared.call.Event.TheVariants.{Resume}
 use Rattle.ep_machine.specs.Deaths.{named_in_tables}
-use Rattle.ep_machine.specs.Files.{Files, is_live, named_by, under}
+use Rattle.ep_machine.specs.Files.{Files, is_live, named_by, names_nothing, object_under, under}
 use Rattle.ep_view.specs.KernelView.{at_number}
 use Rattle.ep_machine.specs.Refusal.{refusals, wait_refusals}
 use Rattle.ep_machine.specs.Files.{object_of}
@@ -50,10 +50,14 @@ use Rattle.ep_calls.specs.declared.wait.Wait.{Wait}
 use Rattle.ep_calls.proofs.OutcomeLemmas.{goes_made}
 use Rattle.ep_calls.proofs.KeyLemmas.{under_key}
 use Rattle.ep_calls.proofs.ReportLemmas.{after, linked_noted, no_numbers, told_change, waits, waits_now}
-use Rattle.ep_table.specs.Value.{Seen, Sound as SoundTables, holds_of, number_of, number_under}
+use Rattle.ep_table.specs.Value.{Seen, Sound as SoundTables, content_of, holds_of, number_of, number_under}
 use Rattle.ep_table.proofs.UnnameLemmas.{under_named}
 
 -- the first test does not hold
+past_test : (b : Bool) (e : Errno) (rest : List (Bool × Errno)) → first ((b, e) ∷ rest) ≡ None → first rest ≡ None
+past_test true e rest h = cc
+past_test false e rest h = h
+
 past_one : (a : Bool) (e : Errno) (rest : List (Bool × Errno)) → first ((not a, e) ∷ rest) ≡ None → a ≡ true
 past_one true e rest h = refl
 past_one false e rest h = absurd cc
@@ -201,6 +205,13 @@ placed_waiting v ws us caller args instance now of placed more =
 module _ (v : Seen) (args : Wait) (instance : DescId) (of : Waits v args instance) where
   abbrev p : ℕ
   p = args.pid.0
+
+  -- what is waited for is an instance
+  pub waits_at_instance : is_instance (content_of v.files (number_of v instance)) ≡ true
+  waits_at_instance =
+      let named : number_of v instance ≡ named_by v.files p args.epfd.0 = ap (λ (o : Option ℕ). unwrap_or o 0) of.named in
+      ap (λ (d : ℕ). is_instance (content_of v.files d)) named
+      ∙ past_one (is_instance (object_under v.files p args.epfd.0)) Einval [] (past_test (names_nothing v.files p args.epfd.0) Ebadf _ (past_test (not (is_positive args.max)) Einval _ of.accepted))
 
   pub positive : is_positive args.max ≡ true
   positive = past_one (is_positive args.max) Einval _ of.accepted

@@ -10,7 +10,8 @@ ghost use Rattle.ep_calls.specs.Kept.{IsKept};
 ghost use Rattle.ep_calls.specs.Last.{NothingRefuses};
 ghost use Rattle.ep_calls.specs.Stands.{AreHeld, ArePlaced};
 ghost use Rattle.ep_calls.specs.Wait.{AreKeyed, numbers_of, with_report};
-ghost use Rattle.ep_table.specs.Value.{number_of, number_under};
+ghost use Rattle.ep_machine.specs.Objects.{is_instance};
+ghost use Rattle.ep_table.specs.Value.{content_of, number_of, number_under};
 
 use crate::raising::Raising;
 use crate::report::report;
@@ -38,6 +39,8 @@ pub fn park(
 ) -> Result<(), AllocError>
     requires instance { IsSome (number_under tables.old waiter.instance) }
     requires used { is_among tables.old.dying (number_of tables.old waiter.instance) ≡ false }
+    requires kind { is_instance
+        (content_of tables.old.files (number_of tables.old waiter.instance)) ≡ true }
     requires free { list_any (is_caller caller.0) waiters.old ≡ false }
     requires held { AreHeld tables.old waiters.old }
     ensures files { tables.new.files ≡ tables.old.files }

@@ -125,7 +125,7 @@ fn answer_of(
         Call::Fork => tables.fork(pid),
         Call::Exec => Ok(exec(tables, waiters, pid)),
         Call::Exit => Ok(exit(tables, waiters, pid)),
-        Call::Accept { fd, .. } => Ok(tables.accept(pid, fd)),
+        Call::Accept { fd, cloexec } => tables.accept(pid, fd, cloexec),
         _ => unreachable!(),
     }
 }

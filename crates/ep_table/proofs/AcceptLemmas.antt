@@ -78,9 +78,17 @@ module _ (v : Seen) (p : ℕ) (fd : ℤ) where
           pub deaf_accept : is_listener y ≡ false → Refused Einval
           deaf_accept h = to_last ∙ stops (not (is_listener x)) Einval _ (ap not (sym (ap is_listener same) ∙ h))
 
-          pub empty_accept : is_listener y ≡ true → pending_in y ≡ [] → Refused Eagain
-          empty_accept h alone =
-              let none = ap (λ (ks : List ℕ). is_none (first_waiting v.files ks)) (ap pending_in (sym same) ∙ alone) in
-              to_last
-              ∙ (goes_on (not (is_listener x)) Einval _ (ap not (sym (ap is_listener same) ∙ h))
-              ∙ stops (is_none (first_waiting v.files (pending_in x))) Eagain [] none)
+          module _ (hears : is_listener y ≡ true) where
+            to_waiting : first (accept_of v.limits v.files p fd false).refusals ≡ first ((is_none (first_waiting v.files (pending_in x)), Eagain) ∷ [])
+            to_waiting = to_last ∙ goes_on (not (is_listener x)) Einval _ (ap not (sym (ap is_listener same) ∙ hears))
+
+            at_listener : pending_in y ≡ pending_in x
+            at_listener = ap pending_in same
+
+            pub empty_accept : first_waiting v.files (pending_in y) ≡ None → Refused Eagain
+            empty_accept h =
+                to_waiting ∙ stops (is_none (first_waiting v.files (pending_in x))) Eagain [] (ap (λ (ks : List ℕ). is_none (first_waiting v.files ks)) (sym at_listener) ∙ ap (λ (o : Option ℕ). is_none o) h)
+
+            pub free_accept : (n : ℕ) → first_waiting v.files (pending_in y) ≡ Some n → first (accept_of v.limits v.files p fd false).refusals ≡ None
+            free_accept n h =
+                to_waiting ∙ goes_on (is_none (first_waiting v.files (pending_in x))) Eagain [] (ap (λ (ks : List ℕ). is_none (first_waiting v.files ks)) (sym at_listener) ∙ ap (λ (o : Option ℕ). is_none o) h)

@@ -77,7 +77,7 @@ closed_own : (s : Shared) (e : End) → end_key (closed_in s e) e ≡ None
 closed_own s First = refl
 closed_own s Second = refl
 
-closed_number : (s : Shared) (e : End) → (closed_in s e).number ≡ s.number
+pub closed_number : (s : Shared) (e : End) → (closed_in s e).number ≡ s.number
 closed_number s First = refl
 closed_number s Second = refl
 
@@ -85,15 +85,15 @@ pub closed_object : (s : Shared) (e : End) → (closed_in s e).object ≡ (close
 closed_object s First = refl
 closed_object s Second = refl
 
-kept_number : (b : Bool) (s : Shared) (e : End) (t : Shared) → kept_if b (closed_in s e) ≡ Some t → object_number_in t ≡ object_number_in s
+pub kept_number : (b : Bool) (s : Shared) (e : End) (t : Shared) → kept_if b (closed_in s e) ≡ Some t → object_number_in t ≡ object_number_in s
 kept_number false s e t h = absurd cc
 kept_number true s e t h = let q : closed_in s e ≡ t = cc in sym (ap object_number_in q) ∙ closed_number s e
 
-kept_value : (b : Bool) (s : Shared) (e : End) → value_in object_number_in object_in (kept_if b (closed_in s e)) ≡ (if b then Some (close_end s.object e).0 else None)
+pub kept_value : (b : Bool) (s : Shared) (e : End) → value_in object_number_in object_in (kept_if b (closed_in s e)) ≡ (if b then Some (close_end s.object e).0 else None)
 kept_value false s e = refl
 kept_value true s e = ap (λ (x : Object). Some x) (closed_object s e)
 
-kept_is : (b : Bool) (t x : Shared) → kept_if b t ≡ Some x → x ≡ t
+pub kept_is : (b : Bool) (t x : Shared) → kept_if b t ≡ Some x → x ≡ t
 kept_is false t x h = absurd cc
 kept_is true t x h = let e : t ≡ x = cc in sym e
 

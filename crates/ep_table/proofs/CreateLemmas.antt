@@ -112,12 +112,13 @@ with_store k ps s = record {
   keys = s.keys;
   holds = s.holds;
   dying = s.dying;
+  losses = s.losses;
 }
 
-pub live_creates_one : {A : Type 0} (k : Inside A) (s : Things) (ps : List Process) (p : ℕ) (key : DescId) (o : Object) (cloexec : Bool) → LiveAll k.store.keys (lists k.processes.items) → IsSome (table_of (value_of k).files p) → InsertsOne k.store s key o
+pub live_creates_one : {A : Type 0} (k : Inside A) (s : Things) (ps : List Process) (p : ℕ) (key : DescId) (cloexec : Bool) → LiveAll k.store.keys (lists k.processes.items) → IsSome (table_of (value_of k).files p) → AddsKey k.store.keys s.keys key (length k.store.descriptions)
     → ps ≡ slice_set (lists k.processes.items) p (entered (get_or (lists k.processes.items) p None) (record { description = key; cloexec = cloexec })) → LiveAll s.keys ps
-live_creates_one k s ps p key o cloexec inv there ins e =
-    subst (λ (qs : List Process). LiveAll s.keys qs) (sym e) (live_one k.store.keys s.keys key (length k.store.descriptions) ins.keys (lists k.processes.items) inv p cloexec there)
+live_creates_one k s ps p key cloexec inv there adds e =
+    subst (λ (qs : List Process). LiveAll s.keys qs) (sym e) (live_one k.store.keys s.keys key (length k.store.descriptions) adds (lists k.processes.items) inv p cloexec there)
 
 pub creates_one : {A : Type 0} (k : Inside A) (v : Seen) (s : Things) (ps : List Process) (p : ℕ) (key : DescId) (o : Object) (cloexec : Bool) → LiveAll k.store.keys (lists k.processes.items) → value_of k ≡ v → IsSome (table_of (value_of k).files p) → InsertsOne k.store s key o
     → ps ≡ slice_set (lists k.processes.items) p (entered (get_or (lists k.processes.items) p None) (record { description = key; cloexec = cloexec })) → CreatesOne v (with_store k ps s) p o cloexec
@@ -129,6 +130,7 @@ creates_one k v s ps p key o cloexec inv same there ins e =
       limits = refl;
       holds = ins.holds;
       dying = ins.dying;
+      losses = ins.losses;
     } in
     subst (λ (w : Seen). CreatesOne w (with_store k ps s) p o cloexec) same r
 
@@ -154,5 +156,6 @@ creates_two k v s ps p first second o cloexec inv same there ins e =
       limits = refl;
       holds = ins.holds;
       dying = ins.dying;
+      losses = ins.losses;
     } in
     subst (λ (w : Seen). CreatesTwo w (with_store k ps s) p o cloexec) same r

@@ -40,6 +40,7 @@ module _ {A : Type 0} (k : Inside A) (v : Things) (inv : IsStore k) (same : thin
     holds = v.holds;
     dying = v.dying;
     named = v.named;
+    losses = v.losses;
   }
 
   object_under : get_or v.objects d.object_number None ≡ Some s.object
@@ -90,12 +91,12 @@ module _ {A : Type 0} (k : Inside A) (v : Things) (inv : IsStore k) (same : thin
     pub dies : (ds : List (Option Description)) (os : List (Option Shared)) (entry : Dead) (raised : Raised) → ds ≡ slice_set k.descriptions.slots key.0 None → os ≡ slice_set k.objects.slots d.object (closed_slot (get_or k.objects.slots d.object None) d.end)
         → raised ≡ raised_slot (get_or k.objects.slots d.object None) d.end
         → entry.desc ≡ key → entry.end ≡ d.end → entry.raised ≡ raised → entry.other ≡ other_slot (get_or k.objects.slots d.object None) d.end
-        → Dies v (record { descriptions = places ds k.described; objects = objects os k.made; keys = map key_number ds; names = counts names_in ds k.described; holds = counts holds_in ds k.described; dying = queued rest; named = k.named }) entry
+        → Dies v (record { descriptions = places ds k.described; objects = objects os k.made; keys = map key_number ds; names = counts names_in ds k.described; holds = counts holds_in ds k.described; dying = queued rest; named = k.named; losses = k.losses.items }) entry
     dies ds os entry raised f g r ek ee er eo =
         let b = backs k v inv same key d is in
         let n = thing_is k v inv same key d is in
         let at : get_or k.objects.slots d.object None ≡ Some s = b.is in
-        let new : Things = record { descriptions = places ds k.described; objects = objects os k.made; keys = map key_number ds; names = counts names_in ds k.described; holds = counts holds_in ds k.described; dying = queued rest; named = k.named } in
+        let new : Things = record { descriptions = places ds k.described; objects = objects os k.made; keys = map key_number ds; names = counts names_in ds k.described; holds = counts holds_in ds k.described; dying = queued rest; named = k.named; losses = k.losses.items } in
         let g1 : os ≡ slice_set k.objects.slots d.object (closed_slot (Some s) d.end) = g ∙ ap (λ (o : Option Shared). slice_set k.objects.slots d.object (closed_slot o d.end)) at in
         let p : places ds k.described ≡ slice_set v.descriptions d.number None = ap (λ (xs : List (Option Description)). places xs k.described) f ∙ places_same in
         let q : objects os k.made ≡ after.objects =
@@ -114,6 +115,7 @@ module _ {A : Type 0} (k : Inside A) (v : Things) (inv : IsStore k) (same : thin
           names = ap (λ (xs : List (Option Description)). counts names_in xs k.described) f ∙ names_same;
           holds = ap (λ (xs : List (Option Description)). counts holds_in xs k.described) f ∙ holds_same;
           named = ap (λ (w : Things). w.named) same;
+          losses = ap (λ (w : Things). w.losses) same;
           end_is = ee;
           raised_is = er ∙ (r ∙ (ap (λ (o : Option Shared). raised_slot o d.end) at ∙ ap (λ (x : Object). (close_end x d.end).1) (sym (ap unwrapped (ap (λ (m : ℕ). object_of (files_in v) m) (sym n) ∙ object_is k v inv same key d is)))));
           other = other_left k.descriptions.slots k.objects.slots k.described k.made inv.descriptions inv.objects inv.backed inv.owned key d is (files_in new) (map key_number ds) entry.other

@@ -1,5 +1,5 @@
 -- What a call on the tables does.
-use Rattle.std.proofs.Common.{Bool, IsSome, List, None, Option, Some, [], ap, arith, false, get_or, is_none, nat_le, pos, refl, subst, suc, sym, true, unwrap_or, zero, ℕ, ℤ, ◌++◌, ◌<◌, ◌∙◌, ◌∷◌, ◌≡◌, ◌≢◌, ◌≤◌}
+use Rattle.std.proofs.Common.{Bool, IsSome, List, None, Option, Some, [], ap, arith, false, get_or, is_none, length, nat_le, pos, refl, subst, suc, sym, true, unwrap_or, zero, ℕ, ℤ, ◌++◌, ◌<◌, ◌∙◌, ◌∷◌, ◌≡◌, ◌≢◌, ◌≤◌}
 use Rattle.std.specs.Prelude.{MatchOption}
 use Rattle.ep_base.specs.declared.answer.Answer.{Answer}
 use Rattle.ep_base.specs.declared.answer.Answer.TheVariants.{Num, Refused, Two}
@@ -10,12 +10,11 @@ use Rattle.ep_base.specs.declared.ids.Fd.{Fd}
 use Rattle.std.proofs.lemmas.Bool.Decides.{nat_tests}
 use Rattle.std.proofs.lemmas.Option.{none-some}
 use Rattle.ep_facts.proofs.OptionFacts.{number_of as some_is}
-use Rattle.ep_machine.specs.Connections.{without_abandoned}
 use Rattle.ep_machine.specs.Effect.{first}
-use Rattle.ep_machine.specs.Files.{Files, named_by, numbers_of, under}
-use Rattle.ep_machine.specs.FilesCalls.{FilesCall, dup_of, letting_go, one_of, quietly, two_of}
+use Rattle.ep_machine.specs.Files.{named_by, numbers_of, under}
+use Rattle.ep_machine.specs.FilesCalls.{FilesCall, dup_of, fork_of, one_of, two_of}
 use Rattle.ep_machine.specs.Objects.{Object}
-use Rattle.ep_machine.specs.Tables.{answer_one, answer_two, dup, one_free, second_free, slot}
+use Rattle.ep_machine.specs.Tables.{answer_one, answer_two, dup, fork, one_free, second_free, slot}
 use Rattle.ep_table.specs.Value.{AddsKey, CreatesOne, CreatesTwo, Does, Refuses, Seen, Succeeds, count_at, holds_of, number_at, number_of, number_under}
 use Rattle.ep_table.proofs.LowestFreeLemmas.{low_enter}
 
@@ -30,19 +29,14 @@ does_done call answer old new h done =
     let P : Option Errno → Type 0 = λ o. MatchOption o (Succeeds call answer old new) (λ f. Refuses f answer old new) in
     subst P (sym h) done
 
--- a call that would let go what waits, where nothing does
-pub does_quietly : (refusals : List (Bool × Errno)) (made answer : Answer) (after : Files) (old new : Seen) → without_abandoned after ≡ (after, []) → Does (quietly refusals made after) answer old new → Does (letting_go refusals made after) answer old new
-does_quietly refusals made answer after old new none h =
-    subst (λ (left : Files × List (ℕ × ℕ)). Does (record { refusals = refusals; answer = made; after = left.0; raised = left.1 }) answer old new) (sym none) h
-
 -- a new key takes none that has a number
-keeps_gained : (old new : List (Option ℕ)) (key : DescId) (n : ℕ) → AddsKey old new key n → (k : DescId) (d : ℕ) → number_at old k ≡ Some d → number_at new k ≡ Some d
+pub keeps_gained : (old new : List (Option ℕ)) (key : DescId) (n : ℕ) → AddsKey old new key n → (k : DescId) (d : ℕ) → number_at old k ≡ Some d → number_at new k ≡ Some d
 keeps_gained old new key n adds k d h =
     let apart : k.0 ≢ key.0 = λ e. none-some d (sym adds.free ∙ (ap (λ (i : ℕ). get_or old i None) (sym e) ∙ h)) in
     adds.others k apart ∙ h
 
 -- a description more is held by none
-counts_appended : (hs : List ℕ) (d : ℕ) → count_at (hs ++ 0 ∷ []) d ≡ count_at hs d
+pub counts_appended : (hs : List ℕ) (d : ℕ) → count_at (hs ++ 0 ∷ []) d ≡ count_at hs d
 counts_appended [] zero = refl
 counts_appended [] (suc d) = refl
 counts_appended (h ∷ hs) zero = refl
@@ -80,7 +74,7 @@ dup_rest v p n x fd e f =
     let rest = (nat_le v.limits.descriptors (one_free (numbers_of v.files p)), Emfile) ∷ [] in
     sym (ap (λ (m : ℕ). first ((nat_le v.limits.descriptors m, Emfile) ∷ [])) f ∙ ap (λ (o : Option ℕ). first ((is_none o, Ebadf) ∷ rest)) e)
 
-pub succeeds_dup : (old new : Seen) (p n d : ℕ) (fd : ℤ) → Some d ≡ under old.files p fd → n ≡ one_free (numbers_of old.files p) → new ≡ record old { files = dup old.files p d } → Succeeds (dup_of old.limits old.files p fd) (Num n) old new
+pub succeeds_dup : (old new : Seen) (p n d : ℕ) (fd : ℤ) → Some d ≡ under old.files p fd → n ≡ one_free (numbers_of old.files p) → new ≡ record old { files = dup old.files p d; losses = [] } → Succeeds (dup_of old.limits old.files p fd) (Num n) old new
 succeeds_dup old new p n d fd e f g =
     let same : d ≡ named_by old.files p fd = ap (λ (o : Option ℕ). unwrap_or o 0) e in
     record {
@@ -91,6 +85,16 @@ succeeds_dup old new p n d fd e f g =
       holds = λ m. ap (λ (w : Seen). holds_of w m) g;
       raised = refl;
     }
+
+pub succeeds_fork : (old new : Seen) (p n : ℕ) → n ≡ length old.files.tables → new ≡ record old { files = fork old.files p; losses = [] } → Succeeds (fork_of old.limits old.files p) (Num n) old new
+succeeds_fork old new p n is g = record {
+  answers = ap Num is;
+  files = ap (λ (w : Seen). w.files) g;
+  limits = ap (λ (w : Seen). w.limits) g;
+  keys = λ key m h. ap (λ (w : Seen). number_under w key) g ∙ h;
+  holds = λ m. ap (λ (w : Seen). holds_of w m) g;
+  raised = refl;
+}
 
 pub full_is : (m n : ℕ) → m ≤ n → first ((nat_le m n, Emfile) ∷ []) ≡ Some Emfile
 full_is m n h = let e : nat_le m n ≡ true = grind (arith, nat_tests, h) in ap (λ (b : Bool). first ((b, Emfile) ∷ [])) e

@@ -16,6 +16,7 @@ use Rattle.ep_table.specs.Value.{AddsKey, InsertsOne, InsertsTwo, Queue, Things}
 use Rattle.ep_table.specs.declared.store.Store.TheInside.{Inside}
 use Rattle.ep_table.specs.declared.words.Description.{Description}
 use Rattle.ep_table.specs.declared.words.Dying.{Dying}
+use Rattle.ep_table.specs.declared.words.Loss.{Loss}
 use Rattle.ep_table.specs.declared.words.Shared.{Shared}
 use Rattle.ep_table.proofs.ByNumberLemmas.{contents_length, contents_more, numbered_more}
 use Rattle.ep_table.proofs.QueueLemmas.{queue_more}
@@ -36,7 +37,7 @@ inserted {T} old mid new key d same was u = record {
 }
 
 -- what was there stays
-kept : {T : Type 0} (old new : List (Option T)) (key : ℕ) (d : T) → Inserted old new key d → (k : ℕ) (x : T) → get_or old k None ≡ Some x → get_or new k None ≡ Some x
+pub kept : {T : Type 0} (old new : List (Option T)) (key : ℕ) (d : T) → Inserted old new key d → (k : ℕ) (x : T) → get_or old k None ≡ Some x → get_or new k None ≡ Some x
 kept {T} old new key d ins k x h =
     let ne : k ≢ key = λ at. (let y = ap (λ (i : ℕ). get_or old i None) at in let z = ins.was in absurd cc) in
     ins.others k ne ∙ h
@@ -89,17 +90,17 @@ pub counted_more : (a b : ℕ) (xs ys : List (Option Place)) (p : Place) → a �
 counted_more a b xs ys p e f g = omega (arith, numbered_push 0 xs p, ap (λ (zs : List (Option Place)). length (numbered 0 zs)) g)
 
 -- counts of one more
-counts_more : (count : Description → ℕ) (ds ds1 : List (Option Description)) (key : ℕ) (d : Description) → Inserted ds ds1 key d → NumberedBy number_in ds d.number → counts count ds1 (d.number + 1) ≡ counts count ds d.number ++ count d ∷ []
+pub counts_more : (count : Description → ℕ) (ds ds1 : List (Option Description)) (key : ℕ) (d : Description) → Inserted ds ds1 key d → NumberedBy number_in ds d.number → counts count ds1 (d.number + 1) ≡ counts count ds d.number ++ count d ∷ []
 counts_more count ds ds1 key d a num =
     ap (map count_in) (contents_more number_in count ds ds1 key d a.was a.here a.others num) ∙ map_push count_in (contents_by number_in count ds d.number) (Some (count d))
 
-fewer_more : (ds ds1 : List (Option Description)) (key : ℕ) (d : Description) → Inserted ds ds1 key d → (l : ℕ) → d.names ≡ 1 → AllFewer ds l → AllFewer ds1 l
+pub fewer_more : (ds ds1 : List (Option Description)) (key : ℕ) (d : Description) → Inserted ds ds1 key d → (l : ℕ) → d.names ≡ 1 → AllFewer ds l → AllFewer ds1 l
 fewer_more ds ds1 key d ins l one h k x is = elim (same_or_not k key) [
   | inl at ↦ let e : d ≡ x = (let y = ap (λ (i : ℕ). get_or ds1 i None) at in let z = ins.here in cc) in omega (arith, one, ap (λ (y : Description). y.names) e)
   | inr ne ↦ h k x (sym (ins.others k ne) ∙ is)
 ]
 
-queue_inserted : (ds : List (Option Description)) (n : ℕ) (p : Place) (dying : List ℕ) (ps : List (Option Place)) (names holds : List ℕ) → ps ≡ places ds n ++ Some p ∷ [] → names ≡ counts names_in ds n ++ 1 ∷ [] → holds ≡ counts holds_in ds n ++ 0 ∷ []
+pub queue_inserted : (ds : List (Option Description)) (n : ℕ) (p : Place) (dying : List ℕ) (ps : List (Option Place)) (names holds : List ℕ) → ps ≡ places ds n ++ Some p ∷ [] → names ≡ counts names_in ds n ++ 1 ∷ [] → holds ≡ counts holds_in ds n ++ 0 ∷ []
     → Queue (places ds n) (counts names_in ds n) (counts holds_in ds n) dying → Queue ps names holds dying
 queue_inserted ds n p dying ps names holds e f g q =
     let l = contents_length number_in place_in ds n in
@@ -134,7 +135,9 @@ roomier k inv ds os dying e f g room =
       fewer = rw e inv.fewer;
       taken = rw f inv.taken;
       owners = rw f inv.owners;
-      quiet = rw f inv.quiet;
+      instances = rw (e, f) inv.instances;
+      connected = rw f inv.connected;
+      loss_room = inv.loss_room;
     }
 
 -- an object with one description
@@ -178,9 +181,9 @@ module _ (ds ds1 : List (Option Description)) (os os1 : List (Option Shared)) (n
   pub fewer_one : (l : ℕ) → AllFewer ds l → AllFewer ds1 l
   fewer_one l f = fewer_more ds ds1 key d a l refl f
 
-  pub inserts_one : (v : Things) (dying : List ℕ) (named : ℕ) → places ds n ≡ v.descriptions → objects os m ≡ v.objects → map key_number ds ≡ v.keys → counts names_in ds n ≡ v.names → counts holds_in ds n ≡ v.holds → dying ≡ v.dying → named ≡ v.named
-      → InsertsOne v (record { descriptions = places ds1 (n + 1); objects = objects os1 (m + 1); keys = map key_number ds1; names = counts names_in ds1 (n + 1); holds = counts holds_in ds1 (n + 1); dying = dying; named = named }) (record { 0 = key }) x
-  inserts_one v dying named p q r en eh t el =
+  pub inserts_one : (v : Things) (dying : List ℕ) (named : ℕ) (losses : List Loss) → places ds n ≡ v.descriptions → objects os m ≡ v.objects → map key_number ds ≡ v.keys → counts names_in ds n ≡ v.names → counts holds_in ds n ≡ v.holds → dying ≡ v.dying → named ≡ v.named → losses ≡ []
+      → InsertsOne v (record { descriptions = places ds1 (n + 1); objects = objects os1 (m + 1); keys = map key_number ds1; names = counts names_in ds1 (n + 1); holds = counts holds_in ds1 (n + 1); dying = dying; named = named; losses = losses }) (record { 0 = key }) x
+  inserts_one v dying named losses p q r en eh t el none =
       let lm : m ≡ length v.objects = sym (contents_length object_number_in object_in os m) ∙ ap (λ (xs : List (Option Object)). length xs) q in
       let ln : n ≡ length v.descriptions = sym (contents_length number_in place_in ds n) ∙ ap (λ (xs : List (Option Place)). length xs) p in
       let adds = keys_more ds ds1 key d a in
@@ -192,6 +195,7 @@ module _ (ds ds1 : List (Option Description)) (os os1 : List (Option Shared)) (n
         holds = holds_zero ∙ ap (λ (xs : List ℕ). xs ++ 0 ∷ []) eh;
         dying = t;
         named = el;
+        losses = none;
       }
 
 -- an object with two descriptions
@@ -257,9 +261,9 @@ module _ (ds ds1 ds2 : List (Option Description)) (os os1 : List (Option Shared)
   pub fewer_two : (l : ℕ) → AllFewer ds l → AllFewer ds2 l
   fewer_two l f = fewer_more ds1 ds2 other d2 c l refl (fewer_more ds ds1 key d1 a l refl f)
 
-  pub inserts_two : (v : Things) (dying : List ℕ) (named : ℕ) → places ds n ≡ v.descriptions → objects os m ≡ v.objects → map key_number ds ≡ v.keys → counts names_in ds n ≡ v.names → counts holds_in ds n ≡ v.holds → dying ≡ v.dying → named ≡ v.named
-      → InsertsTwo v (record { descriptions = places ds2 (n + 1 + 1); objects = objects os1 (m + 1); keys = map key_number ds2; names = counts names_in ds2 (n + 1 + 1); holds = counts holds_in ds2 (n + 1 + 1); dying = dying; named = named }) (record { 0 = key }) (record { 0 = other }) x
-  inserts_two v dying named p q r en eh w el =
+  pub inserts_two : (v : Things) (dying : List ℕ) (named : ℕ) (losses : List Loss) → places ds n ≡ v.descriptions → objects os m ≡ v.objects → map key_number ds ≡ v.keys → counts names_in ds n ≡ v.names → counts holds_in ds n ≡ v.holds → dying ≡ v.dying → named ≡ v.named → losses ≡ []
+      → InsertsTwo v (record { descriptions = places ds2 (n + 1 + 1); objects = objects os1 (m + 1); keys = map key_number ds2; names = counts names_in ds2 (n + 1 + 1); holds = counts holds_in ds2 (n + 1 + 1); dying = dying; named = named; losses = losses }) (record { 0 = key }) (record { 0 = other }) x
+  inserts_two v dying named losses p q r en eh w el none =
       let lm : m ≡ length v.objects = sym (contents_length object_number_in object_in os m) ∙ ap (λ (xs : List (Option Object)). length xs) q in
       let ln : n ≡ length v.descriptions = sym (contents_length number_in place_in ds n) ∙ ap (λ (xs : List (Option Place)). length xs) p in
       let one = keys_more ds ds1 key d1 a in
@@ -274,6 +278,7 @@ module _ (ds ds1 ds2 : List (Option Description)) (os os1 : List (Option Shared)
         holds = holds_zeros ∙ ap (λ (xs : List ℕ). (xs ++ 0 ∷ []) ++ 0 ∷ []) eh;
         dying = w;
         named = el;
+        losses = none;
       }
 
   pub counted_two : (u v w : ℕ) → u ≡ length (numbered 0 (places ds n)) → v ≡ u + 1 → w ≡ v + 1 → w ≡ length (numbered 0 (places ds2 (n + 1 + 1)))

@@ -18,8 +18,16 @@ pub mod SoundLemmas
 pub mod StoreCountsLemmas
 pub mod TakingLemmas
 pub mod OwnersLemmas
+pub mod LetGoLemmas
+pub mod ConnectedLemmas
+pub mod LettingLemmas
+pub mod LettingGoLemmas
+pub mod DescribeLemmas
+pub mod AcceptingLemmas
 pub mod QuietLemmas
+pub mod LeavesLemmas
 pub mod AcceptLemmas
+pub mod AcceptAtLemmas
 mod TimesLemmas
 pub mod NamesLemmas
 pub mod PutLemmas
@@ -30,3 +38,4 @@ pub mod RenamesLemmas
 pub mod LiveLemmas
 pub mod OpeningLemmas
 pub mod DyingKeysLemmas
+pub mod ToldLemmas

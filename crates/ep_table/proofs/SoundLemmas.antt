@@ -1,23 +1,23 @@
 -- What always holds of descriptions and objects.
-use Rattle.std.proofs.Common.{IsSome, List, None, Option, Some, ap, arith, false, get_or, inl, inr, is_some, map, refl, subst, sym, true, unwrap_or, ℕ, ◌∙◌, ◌≡◌}
-use Rattle.std.proofs.lemmas.Bool.{false≢true}
+use Rattle.std.proofs.Common.{IsSome, List, None, Option, Some, ap, arith, false, get_or, inl, inr, is_some, map, refl, subst, sym, true, unwrap_or, ℕ, ◌<◌, ◌∙◌, ◌≡◌}
+use Rattle.std.proofs.lemmas.Bool.{cases_Bool, false≢true}
 use Rattle.std.proofs.lemmas.List.{get_or_past}
 use Rattle.std.proofs.lemmas.List.FromFn.{get_or-map-range_with_len}
 use Rattle.ep_facts.proofs.NatFacts.{below_or}
-use Rattle.ep_facts.proofs.OptionFacts.{value_of}
+use Rattle.ep_facts.proofs.OptionFacts.{number_of as some_is, value_of}
 use Rattle.ep_base.specs.declared.ids.DescId.{DescId}
 use Rattle.ep_machine.specs.Files.{Place, object_of, place_of}
-use Rattle.ep_machine.specs.Objects.{Object}
+use Rattle.ep_machine.specs.Objects.{Object, instance, is_instance, plain}
+use Rattle.ep_object.specs.Kinds.{kind_number}
 use Rattle.ep_table.specs.ByNumber.{NumberedBy, contents_by, with_by}
 use Rattle.ep_table.specs.Stored.{IsStore, key_at as key_of_end, count_in, counts, holds_in, key_number, names_in, number_in, place_in, places, things}
-use Rattle.ep_table.specs.Value.{SoundThings, Things, count_at, files_in, number_at}
+use Rattle.ep_table.specs.Value.{SoundThings, Things, content_of, count_at, files_in, number_at, thing_number, unwrapped}
 use Rattle.ep_table.specs.declared.store.Store.TheInside.{Inside}
 use Rattle.ep_table.specs.declared.words.Description.{Description}
 use Rattle.ep_table.specs.declared.words.Shared.{Shared}
 use Rattle.ep_table.proofs.CloseLemmas.{contents_has}
 use Rattle.ep_table.proofs.ByNumberLemmas.{content_there, contents_length, has_or, with_none}
-use Rattle.ep_table.proofs.CountsLemmas.{counts_at, counts_length}
-use Rattle.ep_table.proofs.QuietLemmas.{content_quiet}
+use Rattle.ep_table.proofs.CountsLemmas.{count_there, counts_at, counts_length}
 use Rattle.ep_table.proofs.StoreLemmas.{key_at, object_is, place_is, thing_is}
 
 -- a description under a key that has a number
@@ -84,6 +84,25 @@ apart_of k inv d e p i j =
     let same : a.0.it ≡ b.0.it = some_description a.0.it b.0.it (sym a.0.is ∙ (ap (λ (n : ℕ). get_or ds n None) keys ∙ b.0.is)) in
     sym a.0.num ∙ (ap number_in same ∙ b.0.num)
 
+kind_instance : (x : Object) → kind_number x ≡ 5 → is_instance x ≡ true
+kind_instance instance h = refl
+kind_instance plain h = cc
+kind_instance x h = cc
+
+-- what is held is an instance
+instances_of : {A : Type 0} (k : Inside A) → IsStore k → (d : ℕ) → 0 < count_at (things k).holds d → is_instance (content_of (files_in (things k)) d) ≡ true
+instances_of k inv d h = elim (cases_Bool (is_some (get_or (places k.descriptions.slots k.described) d None))) [
+  | inl lives ↦
+      let w = keyed_of k.descriptions.slots k.described inv.descriptions d lives in
+      let a = there k (things k) refl w.0 d w.1 in
+      let b = inv.backed w.0.0 a.it a.is in
+      let held : 0 < a.it.holds = omega (arith, h, ap (λ (n : ℕ). count_at (things k).holds n) (sym a.number), count_there holds_in k.descriptions.slots k.described inv.descriptions w.0.0 a.it a.is) in
+      let n = thing_is k (things k) inv refl w.0 a.it a.is ∙ a.number in
+      let object = ap (λ (m : ℕ). object_of (files_in (things k)) m) (sym n) ∙ object_is k (things k) inv refl w.0 a.it a.is in
+      ap (λ (o : Option Object). is_instance (unwrapped o)) object ∙ kind_instance b.it.object (inv.instances w.0.0 a.it a.is held b.it b.is)
+  | inr dead ↦ absurd (omega (arith, h, held_of k.descriptions.slots k.described inv.descriptions d dead))
+]
+
 sound_inside : {A : Type 0} (k : Inside A) → IsStore k → SoundThings (things k)
 sound_inside k inv = record {
   one = λ i j d p q. let a = there k (things k) refl i d p in let b = there k (things k) refl j d q in inv.descriptions.one i.0 j.0 a.it b.it a.is b.is (a.number ∙ sym b.number);
@@ -103,8 +122,12 @@ sound_inside k inv = record {
   names_length = counts_length names_in k.descriptions.slots k.described ∙ sym (contents_length number_in place_in k.descriptions.slots k.described);
   holds_length = counts_length holds_in k.descriptions.slots k.described ∙ sym (contents_length number_in place_in k.descriptions.slots k.described);
   queue = inv.queue;
-  quiet = content_quiet k.objects.slots k.made inv.objects inv.quiet;
+  instances = instances_of k inv;
 }
 
 pub sound_things : {A : Type 0} (k : Inside A) (v : Things) → IsStore k → things k ≡ v → SoundThings v
 sound_things k v inv same = subst (λ (w : Things). SoundThings w) same (sound_inside k inv)
+
+-- a key that is live is that of a place
+pub place_under : (v : Things) (key : DescId) → SoundThings v → IsSome (number_at v.keys key) → IsSome (place_of (files_in v) (thing_number v key))
+place_under v key sound live = sound.place key (thing_number v key) (some_is (number_at v.keys key) live)

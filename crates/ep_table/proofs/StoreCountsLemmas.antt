@@ -1,5 +1,5 @@
 -- The counts of a description change in the store.
-use Rattle.std.proofs.Common.{Bool, List, None, Option, Some, ap, arith, cond, count_by, false, get_or, is_some, length, map, slice_set, subst, suc, sym, true, vec_capacity, zero, ℕ, [], ◌&&◌, ◌++◌, ◌+◌, ◌-◌, ◌<◌, ◌==◌, ◌∙◌, ◌∷◌, ◌≡◌, ◌≤◌}
+use Rattle.std.proofs.Common.{Bool, List, None, Option, Some, ap, arith, cond, count_by, false, get_or, is_some, length, map, refl, slice_set, subst, suc, sym, true, vec_capacity, zero, ℕ, [], ◌&&◌, ◌++◌, ◌+◌, ◌-◌, ◌<◌, ◌==◌, ◌∙◌, ◌∷◌, ◌≡◌, ◌≤◌}
 use Rattle.std.proofs.lemmas.Bool.Decides.{nat_tests}
 use Rattle.std.proofs.lemmas.List.Sums.{sum_by-cons}
 use Rattle.std.specs.declared.vec.Vec.{Vec}
@@ -16,7 +16,10 @@ use Rattle.ep_table.specs.declared.words.Dying.{Dying}
 use Rattle.ep_table.proofs.ByNumberLemmas.{content_there}
 use Rattle.ep_table.proofs.QueueLemmas.{keyed_push, queue_fits, queue_kept, queue_put, queued_length, queued_push}
 use Rattle.ep_table.proofs.CountsLemmas.{backed_counted, count_there, fewer_counted, holds_apart, holds_counted, holds_here, holds_kept, keys_counted, names_apart, names_counted, names_here, names_kept, numbered_counted, owned_counted, places_counted, recounted}
+use Rattle.ep_object.specs.Kinds.{kind_number}
+use Rattle.ep_table.proofs.ConnectedLemmas.{instances_counted}
 use Rattle.ep_table.proofs.StoreLemmas.{key_at, thing_is}
+use Rattle.ep_table.specs.declared.words.Shared.{Shared}
 
 count_same : (xs : List (Option Description)) (i : ℕ) (d e : Description) → get_or xs i None ≡ Some d → count_by is_some (slice_set xs i (Some e)) ≡ count_by is_some xs
 count_same [] i d e h = absurd cc
@@ -92,12 +95,20 @@ module _ {A : Type 0} (k : Inside A) (v : Things) (inv : IsStore k) (same : thin
     pub has_room : (d.names == 0 && d.holds == 0) ≡ false → (a == 0 && b == 0) ≡ true → length k.dying.items < vec_capacity k.dying
     has_room h l = omega (arith, queue_fits (places ds n) (counts names_in ds1 n) (counts holds_in ds1 n) (d.number ∷ queued k.dying.items) (goes h l), queued_length k.dying.items, inv.counted, inv.room)
 
+    -- only an instance is held
+    abbrev pub OnlyInstances : Type 0
+    OnlyInstances = 0 < b → (t : Shared) → get_or k.objects.slots d.object None ≡ Some t → kind_number t.object ≡ 5
+
+    -- as long as it is held no more often than it was
+    pub still_instances : (0 < b → 0 < d.holds) → OnlyInstances
+    still_instances h held t at = inv.instances key.0 d is (h held) t at
+
     len_same : slab_len (with_value k.descriptions key.0 (record d { names = a; holds = b })) ≡ slab_len k.descriptions
     len_same = count_same ds key.0 d (record d { names = a; holds = b }) is
 
-    holds_store : (dying : Vec Dying A) → slab_len k.descriptions ≤ vec_capacity dying → k.named ≤ m → a ≤ m + 1
+    holds_store : (dying : Vec Dying A) → OnlyInstances → slab_len k.descriptions ≤ vec_capacity dying → k.named ≤ m → a ≤ m + 1
         → Queue (places ds n) (counts names_in ds1 n) (counts holds_in ds1 n) (queued dying.items) → AllKeyed (map key_number ds) dying.items → IsStore (next dying)
-    holds_store dying room le most q keyed = record {
+    holds_store dying only room le most q keyed = record {
       descriptions = numbered_counted ds n key.0 d is inv.descriptions a b;
       objects = inv.objects;
       backed = backed_counted ds n key.0 d is inv.descriptions a b k.objects.slots inv.backed;
@@ -109,22 +120,24 @@ module _ {A : Type 0} (k : Inside A) (v : Things) (inv : IsStore k) (same : thin
       fewer = fewer_counted ds n key.0 d is inv.descriptions a b k.named m inv.fewer le most;
       taken = inv.taken;
       owners = inv.owners;
-      quiet = inv.quiet;
+      instances = instances_counted ds k.objects.slots key.0 d (record d { names = a; holds = b }) is refl only inv.instances;
+      connected = inv.connected;
+      loss_room = inv.loss_room;
     }
 
     -- it stays off the queue
-    pub store_stays : k.named ≤ m → a ≤ m + 1 → (d.names == 0 && d.holds == 0) ≡ (a == 0 && b == 0) → IsStore (next k.dying)
-    store_stays le most h = holds_store k.dying inv.room le most (stays h) inv.keyed
+    pub store_stays : OnlyInstances → k.named ≤ m → a ≤ m + 1 → (d.names == 0 && d.holds == 0) ≡ (a == 0 && b == 0) → IsStore (next k.dying)
+    store_stays only le most h = holds_store k.dying only inv.room le most (stays h) inv.keyed
 
     -- it goes on the queue
-    pub store_goes : (dying : Vec Dying A) → dying.items ≡ k.dying.items ++ record { key = key; number = d.number } ∷ [] → vec_capacity dying ≡ vec_capacity k.dying → k.named ≤ m → a ≤ m + 1
+    pub store_goes : (dying : Vec Dying A) → dying.items ≡ k.dying.items ++ record { key = key; number = d.number } ∷ [] → vec_capacity dying ≡ vec_capacity k.dying → OnlyInstances → k.named ≤ m → a ≤ m + 1
         → (d.names == 0 && d.holds == 0) ≡ false → (a == 0 && b == 0) ≡ true → IsStore (next dying)
-    store_goes dying e cap le most h l =
+    store_goes dying e cap only le most h l =
         let x : Dying = record { key = key; number = d.number } in
         let e1 : queued dying.items ≡ d.number ∷ queued k.dying.items = ap queued e ∙ queued_push k.dying.items x in
         let q = subst (λ (xs : List ℕ). Queue (places ds n) (counts names_in ds1 n) (counts holds_in ds1 n) xs) (sym e1) (goes h l) in
         let at : number_at (map key_number ds) key ≡ Some d.number = key_at ds key.0 ∙ ap key_number is in
-        holds_store dying (omega (arith, cap, inv.room)) le most q (subst (λ (xs : List Dying). AllKeyed (map key_number ds) xs) (sym e) (keyed_push (map key_number ds) k.dying.items x inv.keyed at))
+        holds_store dying only (omega (arith, cap, inv.room)) le most q (subst (λ (xs : List Dying). AllKeyed (map key_number ds) xs) (sym e) (keyed_push (map key_number ds) k.dying.items x inv.keyed at))
 
     rest_same : (dying : Vec Dying A) (names holds : List ℕ) → counts names_in ds1 n ≡ names → counts holds_in ds1 n ≡ holds → things (next dying) ≡ record (things k) { names = names; holds = holds; dying = queued dying.items; named = m }
     rest_same dying names holds f g =

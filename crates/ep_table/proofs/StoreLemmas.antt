@@ -1,9 +1,11 @@
 -- Reading descriptions and objects.
-use Rattle.std.proofs.Common.{IsSome, List, None, Option, Some, ap, get_or, map, refl, subst, suc, sym, unwrap_or, zero, ℕ, ◌∙◌, ◌≡◌, ◌∷◌, []}
+use Rattle.std.proofs.Common.{IsSome, List, None, Option, Some, ap, get_or, map, refl, subst, suc, sym, true, unwrap_or, zero, ℕ, ◌∙◌, ◌≡◌, ◌∷◌, []}
 use Rattle.ep_base.specs.declared.ids.DescId.{DescId}
 use Rattle.ep_machine.specs.Files.{Place, object_at, object_of, place_of, side_in, side_of}
 use Rattle.ep_table.specs.Stored.{Backs, IsStore, key_number, number_in, object_in, object_number_in, objects, place_in, things}
-use Rattle.ep_table.specs.Value.{Things, files_in, number_at, thing_number}
+use Rattle.ep_machine.specs.Objects.{Object, instance, is_instance, plain}
+use Rattle.ep_object.specs.Kinds.{kind_number}
+use Rattle.ep_table.specs.Value.{Things, content_of, files_in, number_at, thing_number, unwrapped}
 use Rattle.ep_table.specs.declared.store.Store.TheInside.{Inside}
 use Rattle.ep_table.specs.declared.words.Description.{Description}
 use Rattle.ep_table.specs.declared.words.Shared.{Shared}
@@ -52,3 +54,14 @@ record There (slots : List (Option Description)) (key d : ℕ) : Type 0 where
   pub it : Description
   pub is : get_or slots key None ≡ Some it
   pub number : it.number ≡ d
+
+instance_kind : (x : Object) → is_instance x ≡ true → kind_number x ≡ 5
+instance_kind instance h = refl
+instance_kind plain h = cc
+instance_kind x h = cc
+
+-- an instance, under its key
+pub instance_there : {A : Type 0} (k : Inside A) (v : Things) (inv : IsStore k) (same : things k ≡ v) (key : DescId) (d : Description) (is : get_or k.descriptions.slots key.0 None ≡ Some d)
+    → is_instance (content_of (files_in v) (thing_number v key)) ≡ true → (s : Shared) → get_or k.objects.slots d.object None ≡ Some s → kind_number s.object ≡ 5
+instance_there k v inv same key d is h s at =
+    instance_kind s.object (ap (λ (o : Option Object). is_instance (unwrapped o)) (object_found k v inv same key d is s at) ∙ h)

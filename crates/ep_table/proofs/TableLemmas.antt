@@ -85,7 +85,7 @@ module _ {A : Type 0} (k : Inside A) (v : Seen) (inv : IsTables k) (same : value
 
   pub new_value : with_store k ps s ≡ record v { files = with_table v.files p (g (numbers_of v.files p)); dying = s.dying }
   new_value =
-      (λ i. record (value_of k) { files = record (value_of k).files { tables = new_tables i; descriptions = (rest i).descriptions; objects = (rest i).objects }; keys = (rest i).keys; holds = (rest i).holds; dying = s.dying })
+      (λ i. record (value_of k) { files = record (value_of k).files { tables = new_tables i; descriptions = (rest i).descriptions; objects = (rest i).objects }; keys = (rest i).keys; holds = (rest i).holds; dying = s.dying; losses = (rest i).losses })
       ∙ ap (λ (w : Seen). record w { files = with_table w.files p (g (numbers_of w.files p)); dying = s.dying }) same
 
   pub new_counts : ((d : ℕ) → count_at s.names d + table_times d was ≡ count_at k.store.names d + table_times d (g was)) → (d : ℕ) → count_at s.names d ≡ times d (named_in_tables (tables_in s.keys ps))

@@ -67,6 +67,7 @@ pub record Dies (old new : Things) (dead : Dead) : Type 0 where
   pub names : new.names ≡ old.names
   pub holds : new.holds ≡ old.holds
   pub named : new.named ≡ old.named
+  pub losses : new.losses ≡ old.losses
   pub end_is : dead.end ≡ place.side
   pub raised_is : dead.raised ≡ (close_end (content_of (files_in old) number) place.side).1
   pub other : IsAt (files_in new) new.keys (across (Some place)) dead.other
@@ -82,6 +83,7 @@ pub record Takes (old new : Seen) (dead : Dead) : Type 0 where
   pub keys : new.keys ≡ slice_set old.keys dead.desc.0 None
   pub limits : new.limits ≡ old.limits
   pub holds : new.holds ≡ old.holds
+  pub losses : new.losses ≡ old.losses
   pub end_is : dead.end ≡ place.side
   pub raised_is : dead.raised ≡ (close_end (content_of old.files number) place.side).1
   pub other : IsAt new.files new.keys (across (Some place)) dead.other

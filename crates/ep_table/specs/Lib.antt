@@ -1,11 +1,15 @@
 pub mod Low
 pub mod ByNumber
+pub mod Alone
 pub mod Value
 pub mod Taking
+pub mod Connected
 pub mod Stored
 pub mod Processes
 pub mod View
 pub mod Closing
+pub mod LettingGo
+pub mod Accepting
 pub mod Counting
 pub mod Flagged
 pub mod Live

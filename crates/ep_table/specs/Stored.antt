@@ -1,6 +1,6 @@
 -- How descriptions and objects are kept, and what always holds of them.
 use Rattle.std.specs.Prelude.{[], unwrap_or, ◌++◌, ◌∷◌, List, None, Option, Some, length, map, slice_index_or}
-use Rattle.std.specs.Prelude.{vec_capacity, ℕ, ◌+◌, ◌≡◌, ◌≤◌}
+use Rattle.std.specs.Prelude.{vec_capacity, ℕ, ◌+◌, ◌<◌, ◌≡◌, ◌≤◌}
 use Rattle.slab.specs.Slab.{slab_len}
 use Rattle.ep_base.specs.declared.ids.DescId.{DescId}
 use Rattle.ep_base.specs.declared.object.End.{End}
@@ -8,8 +8,9 @@ use Rattle.ep_base.specs.declared.object.End.TheVariants.{First, Second}
 use Rattle.ep_machine.specs.Files.{Place}
 use Rattle.ep_machine.specs.Lists.{numbered}
 use Rattle.ep_machine.specs.Objects.{Object}
-use Rattle.ep_object.specs.Quiet.{IsQuiet}
+use Rattle.ep_object.specs.Kinds.{kind_number}
 use Rattle.ep_table.specs.ByNumber.{NumberedBy, contents_by}
+use Rattle.ep_table.specs.Connected.{AllStand}
 use Rattle.ep_table.specs.Taking.{AreOwners, Taking}
 use Rattle.ep_table.specs.Value.{Queue, Things, number_at}
 use Rattle.ep_table.specs.declared.store.Store.TheInside.{Inside}
@@ -71,6 +72,7 @@ things k = record {
   holds = counts holds_in k.descriptions.slots k.described;
   dying = queued k.dying.items;
   named = k.named;
+  losses = k.losses.items;
 }
 
 -- each has its number under its key
@@ -102,9 +104,10 @@ AllBacked ds os = (key : ℕ) (d : Description) → slice_index_or ds key None �
 abbrev pub AllOwned : List (Option Description) → List (Option Shared) → Type 0
 AllOwned ds os = (at : ℕ) (s : Shared) (e : End) (key : DescId) → slice_index_or os at None ≡ Some s → key_at s e ≡ Some key → Owns ds at e key
 
--- each object is no connection that waits, and none waits at it
-abbrev pub AllQuiet : List (Option Shared) → Type 0
-AllQuiet os = (at : ℕ) (s : Shared) → slice_index_or os at None ≡ Some s → IsQuiet s.object
+-- what a waiter holds is an instance
+abbrev pub AllInstances : List (Option Description) → List (Option Shared) → Type 0
+AllInstances ds os = (key : ℕ) (d : Description) → slice_index_or ds key None ≡ Some d → 0 < d.holds
+    → (s : Shared) → slice_index_or os d.object None ≡ Some s → kind_number s.object ≡ 5
 
 pub record IsStore {A : Type 0} (k : Inside A) : Type 0 where
   pub descriptions : NumberedBy number_in k.descriptions.slots k.described
@@ -118,6 +121,9 @@ pub record IsStore {A : Type 0} (k : Inside A) : Type 0 where
       (counts holds_in k.descriptions.slots k.described) (queued k.dying.items)
   pub keyed : AllKeyed (map key_number k.descriptions.slots) k.dying.items
   pub fewer : AllFewer k.descriptions.slots k.named
-  pub taken : Taking k.taken (things k).objects
-  pub owners : AreOwners k.taken k.objects.slots
-  pub quiet : AllQuiet k.objects.slots
+  pub taken : Taking k.taken.value (things k).objects
+  pub owners : AreOwners k.taken.value k.objects.slots
+  pub instances : AllInstances k.descriptions.slots k.objects.slots
+  pub connected : AllStand k.waiting k.objects.slots k.made
+  -- what goes may be told, each once
+  pub loss_room : length k.losses.items + length k.waiting ≤ vec_capacity k.losses

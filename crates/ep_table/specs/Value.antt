@@ -2,21 +2,24 @@
 use Rattle.ep_base.specs.declared.object.End.TheVariants.{First, Second}
 use Rattle.std.specs.Prelude.{if◌then◌else◌, true, false, not, slice_set, ◌-◌, ◌&&◌, ◌==◌, Bool, IsSome, List}
 use Rattle.std.specs.Prelude.{MatchOption, None, Option, Some, is_some, negsuc, pos, slice_index_or}
-use Rattle.std.specs.Prelude.{unwrap_or, ℕ, ℤ, ◌+◌, ◌≡◌, ◌≢◌, ◌∷◌, [], length, ◌++◌}
+use Rattle.std.specs.Prelude.{unwrap_or, ℕ, ℤ, ◌+◌, ◌<◌, ◌≡◌, ◌≢◌, ◌∷◌, [], length, ◌++◌}
 use Rattle.ep_base.specs.Limits.{Limits}
 use Rattle.ep_base.specs.declared.answer.Answer.{Answer}
 use Rattle.ep_base.specs.declared.answer.Answer.TheVariants.{Refused}
 use Rattle.ep_base.specs.declared.errno.Errno.{Errno}
 use Rattle.ep_base.specs.declared.ids.DescId.{DescId}
 use Rattle.ep_machine.specs.Effect.{Effect, attempt, first}
+use Rattle.ep_machine.specs.Connections.{without_abandoned}
 use Rattle.ep_machine.specs.Deaths.{named_in_tables}
 use Rattle.ep_machine.specs.Files.{Files, Place, content_at, is_live, numbers_of, object_of, place_of, side_of, under}
 use Rattle.ep_machine.specs.FilesCalls.{FilesCall}
 use Rattle.ep_machine.specs.Lists.{are_distinct, is_among, place_at}
-use Rattle.ep_machine.specs.Objects.{Object, ObjectCall, object_effect, object_refusals, plain}
+use Rattle.ep_machine.specs.Objects.{Object, ObjectCall, is_instance, object_effect, object_refusals, plain}
+use Rattle.ep_machine.specs.Spread.{raised_of}
 use Rattle.ep_machine.specs.Tables.{affected, create_one, create_two, slot, with_table}
 use Rattle.ep_object.specs.Memory.{object_waiting}
 use Rattle.ep_object.specs.Quiet.{IsQuiet}
+use Rattle.ep_table.specs.declared.words.Loss.{Loss}
 
 pub record Seen : Type 0 where
   pub limits : Limits
@@ -24,6 +27,7 @@ pub record Seen : Type 0 where
   pub keys : List (Option ℕ)  -- the number of the description under each key
   pub holds : List ℕ  -- how many waiters hold each description
   pub dying : List ℕ  -- the live descriptions that no table names and no waiter holds
+  pub losses : List Loss  -- what the last call on the tables raised where connections were let go
 
 -- the count of a number in a list of counts, 0 past its end
 abbrev pub count_at : List ℕ → ℕ → ℕ
@@ -63,6 +67,16 @@ abbrev pub natural : ℤ → Option ℕ
 natural (pos k) = Some k
 natural (negsuc k) = None
 
+-- what was raised where connections were let go, by the numbers of the descriptions
+abbrev pub losses_of : List (Option ℕ) → List Loss → List (ℕ × ℕ)
+losses_of keys [] = []
+losses_of keys (x ∷ xs) = (unwrap_or (number_at keys x.desc) 0, x.raised.0) ∷ losses_of keys xs
+
+-- each of those is live
+abbrev pub AreLive : List (Option ℕ) → List Loss → Type 0
+AreLive keys [] = Unit {0}
+AreLive keys (x ∷ xs) = IsSome (number_at keys x.desc) × AreLive keys xs
+
 -- one key more, which was free
 pub record AddsKey (old new : List (Option ℕ)) (key : DescId) (number : ℕ) : Type 0 where
   pub free : number_at old key ≡ None
@@ -88,6 +102,11 @@ KeepsKeys old new = (key : DescId) (d : ℕ) → number_under old key ≡ Some d
 abbrev pub KeepsHolds : Seen → Seen → Type 0
 KeepsHolds old new = (d : ℕ) → holds_of new d ≡ holds_of old d
 
+-- what is raised is what stands as lost, at each description, and each of those is live
+pub record AreTold (raised : List (ℕ × ℕ)) (v : Seen) : Type 0 where
+  pub bits : (d : ℕ) → raised_of raised d ≡ raised_of (losses_of v.keys v.losses) d
+  pub live : AreLive v.keys v.losses
+
 -- a call on the tables that isn't refused
 pub record Succeeds (call : FilesCall) (answer : Answer) (old new : Seen) : Type 0 where
   pub answers : answer ≡ call.answer
@@ -95,7 +114,7 @@ pub record Succeeds (call : FilesCall) (answer : Answer) (old new : Seen) : Type
   pub limits : new.limits ≡ old.limits
   pub keys : KeepsKeys old new
   pub holds : KeepsHolds old new
-  -- nothing waits yet, so nothing is let go
+  -- no connection waits yet, so none is let go
   pub raised : call.raised ≡ []
 
 pub record Refuses (e : Errno) (answer : Answer) (old new : Seen) : Type 0 where
@@ -107,6 +126,17 @@ abbrev pub Does : FilesCall → Answer → Seen → Seen → Type 0
 Does call answer old new =
     MatchOption (first call.refusals) (Succeeds call answer old new) (λ e. Refuses e answer old new)
 
+-- what a call on the tables raised that isn't refused stands as lost
+abbrev pub IsTold : FilesCall → Seen → Type 0
+IsTold call v = first call.refusals ≡ None → AreTold call.raised v
+
+-- the files after a call that may take the last name of a listener, without what is let go by that
+pub record Leaves (old new : Seen) (after : Files) : Type 0 where
+  pub files : new.files ≡ (without_abandoned after).0
+  pub rest : new ≡ record old { files = new.files; dying = new.dying; losses = new.losses }
+  pub told : AreTold (without_abandoned after).1 new
+  pub silent : (without_abandoned after).1 ≡ []
+
 -- an object with one description more
 pub record CreatesOne (old new : Seen) (p : ℕ) (x : Object) (cloexec : Bool) : Type 0 where
   pub files : new.files ≡ create_one old.files p x cloexec
@@ -114,6 +144,7 @@ pub record CreatesOne (old new : Seen) (p : ℕ) (x : Object) (cloexec : Bool) :
   pub limits : new.limits ≡ old.limits
   pub holds : new.holds ≡ old.holds ++ 0 ∷ []
   pub dying : new.dying ≡ old.dying
+  pub losses : new.losses ≡ []
 
 -- an object with two descriptions more
 pub record CreatesTwo (old new : Seen) (p : ℕ) (x : Object) (cloexec : Bool) : Type 0 where
@@ -122,6 +153,7 @@ pub record CreatesTwo (old new : Seen) (p : ℕ) (x : Object) (cloexec : Bool) :
   pub limits : new.limits ≡ old.limits
   pub holds : new.holds ≡ (old.holds ++ 0 ∷ []) ++ 0 ∷ []
   pub dying : new.dying ≡ old.dying
+  pub losses : new.losses ≡ []
 
 abbrev pub unwrapped : Option Object → Object
 unwrapped x = unwrap_or x plain
@@ -185,6 +217,7 @@ pub record Things : Type 0 where
   pub holds : List ℕ
   pub dying : List ℕ
   pub named : ℕ  -- how often a name was added
+  pub losses : List Loss
 
 abbrev pub files_in : Things → Files
 files_in v = record { tables = []; descriptions = v.descriptions; objects = v.objects }
@@ -222,8 +255,7 @@ pub record SoundThings (v : Things) : Type 0 where
   pub names_length : length v.names ≡ length v.descriptions
   pub holds_length : length v.holds ≡ length v.descriptions
   pub queue : Queue v.descriptions v.names v.holds v.dying
-  -- no connection waits yet
-  pub quiet : (k : ℕ) → IsQuiet (content_at (files_in v) k)
+  pub instances : (d : ℕ) → 0 < count_at v.holds d → is_instance (content_of (files_in v) d) ≡ true
 
 -- an object with one description more, under this key, with one name
 pub record InsertsOne (old new : Things) (key : DescId) (x : Object) : Type 0 where
@@ -234,6 +266,7 @@ pub record InsertsOne (old new : Things) (key : DescId) (x : Object) : Type 0 wh
   pub holds : new.holds ≡ old.holds ++ 0 ∷ []
   pub dying : new.dying ≡ old.dying
   pub named : new.named ≡ old.named
+  pub losses : new.losses ≡ []
 
 -- an object with two, under these
 pub record InsertsTwo (old new : Things) (first second : DescId) (x : Object) : Type 0 where
@@ -248,3 +281,4 @@ pub record InsertsTwo (old new : Things) (first second : DescId) (x : Object) : 
   pub holds : new.holds ≡ (old.holds ++ 0 ∷ []) ++ 0 ∷ []
   pub dying : new.dying ≡ old.dying
   pub named : new.named ≡ old.named
+  pub losses : new.losses ≡ []

@@ -1,7 +1,7 @@
 //! Open file descriptions and their objects.
 ghost use Rattle.std.specs.Prelude.{◌≡◌, ◌+◌, ◌<◌, ◌≤◌, ◌^◌, [], false, IfNone, IfOk, IfSome, IsOk, IsSome, None};
 ghost use Rattle.std.specs.Prelude.{OnErr, OnOk, Some, length, is_some, map, min, slice_index_or, slice_set, vec_capacity};
-ghost use Rattle.std.specs.Prelude.{if◌then◌else◌, ℕ};
+ghost use Rattle.std.specs.Prelude.{if◌then◌else◌, true, ℕ};
 ghost use Rattle.slab.specs.Slab.{HasRoomFor, slab_len};
 ghost use Rattle.std.specs.Map.Iter.{ShowsInOrder};
 ghost use Rattle.ep_base.specs.declared.ids.DescId.{DescId};
@@ -12,19 +12,20 @@ ghost use Rattle.ep_object.specs.Asked.{takes_name};
 ghost use Rattle.ep_object.specs.Memory.{asked_of};
 ghost use Rattle.ep_base.specs.declared.socket.Name.{Name as the_name};
 ghost use Rattle.ep_machine.specs.Names.{is_there};
-ghost use Rattle.ep_machine.specs.Objects.{close_end, found_for, hearing, hearing_in, is_taken, name_in};
+ghost use Rattle.ep_machine.specs.Objects.{close_end, found_for, hearing, hearing_in, is_instance, is_taken, name_in};
 ghost use Rattle.ep_object.specs.Quiet.{IsQuiet};
 ghost use Rattle.ep_names.specs.Names.{holds, owner_of};
 ghost use Rattle.ep_table.specs.Taking.{FindsFree, freed_slot};
 ghost use Rattle.ep_table.specs.Closing.{Dies, IsAt, across, closed_in, closed_slot, other_key, other_slot, raised_slot};
 ghost use Rattle.ep_table.specs.Live.{live_ids};
-ghost use Rattle.ep_table.specs.Value.{InsertsOne, InsertsTwo, SoundThings, count_at, files_in, less_at, more_at};
+ghost use Rattle.ep_table.specs.Value.{InsertsOne, InsertsTwo, SoundThings, content_of, count_at, files_in, less_at, more_at};
 ghost use Rattle.ep_table.specs.Value.{number_at, objects_after, refusals_at, thing_effect, thing_number};
 ghost use Rattle.ep_table.specs.Value.{thing_waiting};
 
 use crate::dying_keys::DyingKeys;
 use crate::live::Live;
-use crate::words::{Dead, Description, Dying, Shared};
+use crate::waiting::Waiting;
+use crate::words::{Dead, Description, Dying, Loss, Shared};
 use ep_base::{Answer, Call, DescId, End, Hearing, Moment, Name, Raised, Space};
 use ep_names::Names;
 use ep_object::{NamingCall, Object, ObjectCall};
@@ -34,16 +35,21 @@ use std::marker::Model;
 
 /// Open file descriptions and objects by their keys, how many there have been of each, how often a
 /// name was added to a description, the descriptions that nothing names or holds, with room for
-/// all that live, and which names of sockets are taken.
+/// all that live, which names of sockets are taken, which connections wait to be accepted, and what
+/// the last call raised by letting some of them go.
 #[derive(Drop)]
 pub struct Store<A: Allocator> {
-    described: u64,
+    pub(crate) described: u64,
     made: u64,
     named: usize,
-    descriptions: Slab<Description, A>,
-    objects: Slab<Shared, A>,
-    dying: Vec<Dying, A>,
-    taken: Names<A>,
+    pub(crate) descriptions: Slab<Description, A>,
+    pub(crate) objects: Slab<Shared, A>,
+    pub(crate) dying: Vec<Dying, A>,
+    // In a box, since three tables of names make whatever holds the store by value large.
+    taken: Box<Names<A>, A>,
+    pub(crate) waiting: Waiting<A>,
+    // With room for one of each connection that waits.
+    pub(crate) losses: Vec<Loss, A>,
 }
 
 impl<A: Allocator> Model for Store<A> {
@@ -56,6 +62,24 @@ impl<A: Allocator> Model for Store<A> {
     ghost view = { things };
 
     ghost invariant = { IsStore };
+}
+
+/// Makes room for so many descriptions, and for the deaths of all.
+pub fn reserve_described<A: Allocator>(
+    descriptions: &mut Slab<Description, A>,
+    dying: &mut Vec<Dying, A>,
+    additional: usize,
+) -> Result<(), AllocError>
+    ensures descriptions { descriptions.new.slots ≡ descriptions.old.slots }
+    ensures dying { dying.new.items ≡ dying.old.items }
+    ensures grown { vec_capacity dying.old ≤ vec_capacity dying.new }
+    ensures room { OnOk result (HasRoomFor descriptions.new additional) }
+    ensures death_room { OnOk result
+        (slab_len descriptions.new + additional ≤ vec_capacity dying.new) }
+{
+    descriptions.reserve(additional)?;
+    dying.reserve(descriptions.capacity())?;
+    Ok(())
 }
 
 /// Makes room for one object and so many descriptions, and for the deaths of all.
@@ -75,15 +99,13 @@ fn reserve<A: Allocator>(
         (slab_len descriptions.new + additional ≤ vec_capacity dying.new) }
 {
     objects.reserve(1)?;
-    descriptions.reserve(additional)?;
-    dying.reserve(descriptions.capacity())?;
-    Ok(())
+    reserve_described(descriptions, dying, additional)
 }
 
 /// Closes an end of an object, which goes where that was the last, unless somebody may accept the other: what that
 /// raised, the key of the description of the other end, and the name that went with the object, or with the end that
 /// closed.
-fn close<A: Allocator>(
+pub fn close<A: Allocator>(
     objects: &mut Slab<Shared, A>,
     at: usize,
     end: End,
@@ -167,21 +189,23 @@ fn free_name<A: Allocator>(taken: &mut Names<A>, name: Option<Name>)
 
 impl<A: Allocator> Store<A> {
     /// No descriptions.
-    pub fn new(alloc: A) -> Store<A>
+    pub fn new(alloc: A) -> Result<Store<A>, AllocError>
     where
         A: Copy,
-        ensures { result
-            ≡ record { descriptions = []; objects = []; keys = []; names = []; holds = []; dying = []; named = 0 } }
+        ensures { IfOk result (λ store. store
+            ≡ record { descriptions = []; objects = []; keys = []; names = []; holds = []; dying = []; named = 0; losses = [] }) }
     {
-        Store {
+        Ok(Store {
             described: 0,
             made: 0,
             named: 0,
             descriptions: Slab::new(alloc),
             objects: Slab::new(alloc),
             dying: Vec::new(alloc),
-            taken: Names::new(alloc),
-        }
+            taken: Box::new(alloc, Names::new(alloc))?,
+            waiting: Waiting::new(alloc),
+            losses: Vec::new(alloc),
+        })
     }
 
     /// How many descriptions are live.
@@ -312,6 +336,7 @@ impl<A: Allocator> Store<A> {
         });
         self.described += 1;
         self.made += 1;
+        self.losses.clear();
         Ok(DescId(key))
     }
 
@@ -356,6 +381,7 @@ impl<A: Allocator> Store<A> {
             second: Some(DescId(second)),
         });
         self.made += 1;
+        self.losses.clear();
         Ok((DescId(first), DescId(second)))
     }
 
@@ -412,7 +438,21 @@ impl<A: Allocator> Store<A> {
         Ok(shared.object.apply_naming(call))
     }
 
-    /// What always holds, also that no connection waits to be accepted.
+    /// What the last call raised by letting connections go.
+    pub fn losses(&self) -> &[Loss]
+        ensures { result.now ≡ self.now.losses }
+    {
+        &self.losses
+    }
+
+    /// What the last call raised is forgotten.
+    pub fn forget_losses(&mut self)
+        ensures { self.new ≡ record self.old { losses = [] } }
+    {
+        self.losses.clear();
+    }
+
+    /// What always holds.
     pub fn known(&self)
         ensures { SoundThings self.now }
     {
@@ -465,11 +505,13 @@ impl<A: Allocator> Store<A> {
         }
     }
 
-    /// A description that isn't dying is held once more. An `AllocError`, which comes only where it is
+    /// A description of an instance that isn't dying is held once more. An `AllocError`, which comes only where it is
     /// held 2^64 - 1 times, leaves everything.
     pub fn hold(&mut self, key: DescId) -> Result<(), AllocError>
         requires live { IsSome (number_at self.old.keys key) }
         requires used { is_among self.old.dying (thing_number self.old key) ≡ false }
+        requires instance { is_instance (content_of (files_in self.old) (thing_number self.old key))
+            ≡ true }
         ensures ok { OnOk result
             (self.new ≡ record self.old
             { holds = more_at self.old.holds (thing_number self.old key) }) }

@@ -1,22 +1,21 @@
 //! The tables: processes, descriptors, open file descriptions and objects.
-ghost use Rattle.std.specs.Prelude.{◌≡◌, ◌+◌, ◌<◌, ◌≤◌, ◌^◌, ◌∷◌, [], ℕ, false, Bool, IfNone, IfOk, IfSome, IsOk, IsSome};
-ghost use Rattle.std.specs.Prelude.{None, OnErr, OnOk, Some, is_some, length, map, min, pos, true};
+ghost use Rattle.std.specs.Prelude.{◌≡◌, ◌+◌, ◌<◌, ◌≤◌, ◌^◌, ◌∷◌, [], ℕ, IfNone, IfOk, IfSome, IsOk, IsSome};
+ghost use Rattle.std.specs.Prelude.{None, OnErr, OnOk, Some, false, is_some, length, map, min, pos, true};
 ghost use Rattle.std.specs.Map.Iter.{ShowsInOrder};
 ghost use Rattle.ep_base.specs.declared.ids.DescId.{DescId};
-ghost use Rattle.ep_machine.specs.Connections.{without_abandoned};
 ghost use Rattle.ep_machine.specs.Deaths.{named_in_tables};
 ghost use Rattle.ep_machine.specs.Effect.{first};
 ghost use Rattle.ep_machine.specs.Lists.{is_among, numbered};
 ghost use Rattle.ep_machine.specs.Files.{named_by, numbers_of, object_of, opening_files, place_of, side_of, table_of, under};
 ghost use Rattle.ep_machine.specs.Bits.{raises};
-ghost use Rattle.ep_machine.specs.Objects.{advance, found_for, hearing, is_taken, name_in, object_present};
+ghost use Rattle.ep_machine.specs.Objects.{advance, found_for, hearing, is_instance, is_taken, name_in, object_present};
 ghost use Rattle.ep_object.specs.Quiet.{IsQuiet};
-ghost use Rattle.ep_machine.specs.FilesCalls.{accept_of, close_of, dup2_of, dup_of, fork_of, one_of, pipe_of, socketpair_of, two_of};
+ghost use Rattle.ep_machine.specs.FilesCalls.{close_of, dup2_of, dup_of, fork_of, one_of, pipe_of, socketpair_of, two_of};
 ghost use Rattle.ep_machine.specs.Tables.{close, create_refusals, dup, exec, exit, fork, is_in_range};
 ghost use Rattle.ep_machine.specs.Tables.{one_refusals, second_free, two_refusals};
 ghost use Rattle.ep_table.specs.Closing.{IsAt, Takes, across};
 ghost use Rattle.ep_table.specs.Live.{live_ids};
-ghost use Rattle.ep_table.specs.Value.{CreatesOne, CreatesTwo, Does, Gains, Sound, content_of, effect_under};
+ghost use Rattle.ep_table.specs.Value.{CreatesOne, CreatesTwo, Does, Gains, IsTold, Leaves, Sound, content_of, effect_under};
 ghost use Rattle.ep_table.specs.Value.{files_after, holds_of, less_at, more_at, named_at, natural, number_found};
 ghost use Rattle.ep_table.specs.Value.{number_of, number_under, refusals_at, waiting_at};
 ghost use Rattle.ep_object.specs.Asked.{takes_name};
@@ -33,7 +32,7 @@ use crate::processes::{
 };
 use crate::store::Store;
 use crate::table::Table;
-use crate::words::{Dead, Descriptor};
+use crate::words::{Dead, Descriptor, Loss};
 use ep_base::{
     Answer, Call, DescId, End, Errno, Fd, Hearing, Limits, Mask, Moment, Name, Pid, Raised,
 };
@@ -49,10 +48,10 @@ use std::marker::Model;
 /// close may go over the taken numbers above the freed one.
 #[derive(Drop)]
 pub struct Tables<A: Allocator = Global> {
-    limits: Limits,
-    processes: Vec<Option<Table<A>>, A>,
+    pub(crate) limits: Limits,
+    pub(crate) processes: Vec<Option<Table<A>>, A>,
     living: usize,
-    store: Store<A>,
+    pub(crate) store: Store<A>,
 }
 
 impl<A: Allocator> Model for Tables<A> {
@@ -110,7 +109,7 @@ impl<A: Allocator> Tables<A> {
         ensures holds { IfOk result (λ tables. tables.holds ≡ 0 ∷ []) }
         ensures dying { IfOk result (λ tables. tables.dying ≡ []) }
     {
-        let mut store = Store::new(alloc);
+        let mut store = Store::new(alloc)?;
         let description = store.insert(Object::plain(objects))?;
         let table = Table::opening(alloc, description)?;
         let mut processes = Vec::new(alloc);
@@ -239,6 +238,7 @@ impl<A: Allocator> Tables<A> {
         ensures ok { IfOk result
             (λ answer. Does (one_of self.old.limits self.old.files pid.0 object cloexec) answer
             self.old self.new) }
+        ensures told { OnOk result (IsTold (one_of self.old.limits self.old.files pid.0 object cloexec) self.new) }
         ensures last { OnErr result
             (first (one_refusals self.old.limits self.old.files pid.0) ≡ None) }
         ensures err { OnErr result (self.new ≡ self.old) }
@@ -261,6 +261,7 @@ impl<A: Allocator> Tables<A> {
         ensures ok { IfOk result
             (λ answer. Does (two_of self.old.limits self.old.files pid.0 object cloexec) answer
             self.old self.new) }
+        ensures told { OnOk result (IsTold (two_of self.old.limits self.old.files pid.0 object cloexec) self.new) }
         ensures err { OnErr result (self.new ≡ self.old) }
     {
         let first = lowest(&self.processes, pid);
@@ -280,6 +281,7 @@ impl<A: Allocator> Tables<A> {
         ensures ok { IfOk result
             (λ answer. Does (pipe_of self.old.limits self.old.files pid.0 cloexec) answer self.old
             self.new) }
+        ensures told { OnOk result (IsTold (pipe_of self.old.limits self.old.files pid.0 cloexec) self.new) }
         ensures last { OnErr result
             (first (two_refusals self.old.limits self.old.files pid.0) ≡ None) }
         ensures err { OnErr result (self.new ≡ self.old) }
@@ -304,6 +306,7 @@ impl<A: Allocator> Tables<A> {
         ensures ok { IfOk result
             (λ answer. Does (socketpair_of self.old.limits self.old.files pid.0 cloexec) answer
             self.old self.new) }
+        ensures told { OnOk result (IsTold (socketpair_of self.old.limits self.old.files pid.0 cloexec) self.new) }
         ensures last { OnErr result
             (first (two_refusals self.old.limits self.old.files pid.0) ≡ None) }
         ensures err { OnErr result (self.new ≡ self.old) }
@@ -313,6 +316,20 @@ impl<A: Allocator> Tables<A> {
         }
         let object = Object::pair(alloc, self.limits.sock_bytes())?;
         self.create_two(pid, cloexec, object)
+    }
+
+    /// What the last call on the tables that succeeded raised by letting connections go.
+    pub fn losses(&self) -> &[Loss]
+        ensures { result.now ≡ self.now.losses }
+    {
+        self.store.losses()
+    }
+
+    /// What the last call raised by letting connections go is forgotten.
+    fn forget_losses(&mut self)
+        ensures { self.new ≡ record self.old { losses = [] } }
+    {
+        self.store.forget_losses();
     }
 
     /// Another descriptor of a description, at the lowest free number of a process that is there.
@@ -346,6 +363,7 @@ impl<A: Allocator> Tables<A> {
         ensures ok { IfOk result
             (λ answer. Does (dup_of self.old.limits self.old.files pid.0 fd.0) answer self.old
             self.new) }
+        ensures told { OnOk result (IsTold (dup_of self.old.limits self.old.files pid.0 fd.0) self.new) }
         ensures last { OnErr result
             (first (dup_of self.old.limits self.old.files pid.0 fd.0).refusals ≡ None) }
         ensures err { OnErr result (self.new ≡ self.old) }
@@ -358,6 +376,7 @@ impl<A: Allocator> Tables<A> {
             return Ok(Answer::Refused(Errno::Emfile));
         }
         self.add_name(pid, description)?;
+        self.forget_losses();
         Ok(Answer::Num(free as u64))
     }
 
@@ -406,18 +425,17 @@ impl<A: Allocator> Tables<A> {
     /// and is the answer. What it named before is closed first, silently; where `to` is `fd`, nothing
     /// is done. Refused, with nothing changed: EBADF where `fd` names nothing, EBADF where `to` is out
     /// of range. An `AllocError` leaves the tables, and comes only if nothing refuses the call. The time is
-    /// that of growing the table up to `to`.
+    /// that of growing the table up to `to`, and of going over what is let go.
     pub fn dup2(&mut self, pid: Pid, fd: Fd, to: Fd) -> Result<Answer, AllocError>
         requires { IsSome (table_of self.old.files pid.0) }
         ensures ok { IfOk result
             (λ answer. Does (dup2_of self.old.limits self.old.files pid.0 fd.0 to.0) answer self.old
             self.new) }
+        ensures told { OnOk result (IsTold (dup2_of self.old.limits self.old.files pid.0 fd.0 to.0) self.new) }
         ensures last { OnErr result
             (first (dup2_of self.old.limits self.old.files pid.0 fd.0 to.0).refusals ≡ None) }
         ensures err { OnErr result (self.new ≡ self.old) }
     {
-        // (only the prover needs it)
-        self.known();
         let Some(description) = self.lookup(pid, fd) else {
             return Ok(Answer::Refused(Errno::Ebadf));
         };
@@ -427,6 +445,7 @@ impl<A: Allocator> Tables<A> {
         if fd != to {
             self.name_at(pid, number, description)?;
         }
+        self.let_go();
         Ok(Answer::Num(number as u64))
     }
 
@@ -451,43 +470,6 @@ impl<A: Allocator> Tables<A> {
         Ok(())
     }
 
-    /// How accept4(2) of a process that is there is refused. Linux tells of a full table before it looks at what the
-    /// descriptor names. The refusals don't go by the close-on-exec flag.
-    fn refuses_accept(&self, pid: Pid, fd: Fd) -> Errno
-        ensures { first (accept_of self.now.limits self.now.files pid.0 fd.0 false).refusals
-            ≡ Some result }
-    {
-        let Some(description) = self.lookup(pid, fd) else {
-            return Errno::Ebadf;
-        };
-        if self.limits.descriptors() as usize <= lowest(&self.processes, pid) {
-            return Errno::Emfile;
-        }
-        let object = self.object(description);
-        if !object.is_socket() {
-            return Errno::Enotsock;
-        }
-        // (only the prover needs it)
-        self.known();
-        match self.refuses_one(pid) {
-            Some(errno) => errno,
-            None if object.is_listener() => Errno::Eagain,
-            None => Errno::Einval,
-        }
-    }
-
-    /// accept4(2) of a process that is there: nothing waits at a listener yet, so it is refused. EBADF if `fd` names
-    /// nothing, EMFILE if none of the process's numbers is free, ENOTSOCK if `fd` names no socket, ENFILE if the limit
-    /// of live descriptions is reached, EINVAL if the socket doesn't listen, else EAGAIN. The close-on-exec flag that
-    /// the call asks for makes no difference.
-    pub fn accept(&self, pid: Pid, fd: Fd) -> Answer
-        ensures { (cloexec : Bool)
-            → Does (accept_of self.now.limits self.now.files pid.0 fd.0 cloexec) result self.now
-            self.now }
-    {
-        Answer::Refused(self.refuses_accept(pid, fd))
-    }
-
     /// fork(2): a new process with a copy of the table of a process that is there, flags included, which
     /// shares the descriptions. The answer is its number, which is never used again. Refused, with
     /// nothing changed: EAGAIN where as many processes live as the limit allows. An `AllocError` leaves
@@ -499,6 +481,7 @@ impl<A: Allocator> Tables<A> {
         ensures ok { IfOk result
             (λ answer. Does (fork_of self.old.limits self.old.files pid.0) answer self.old
             self.new) }
+        ensures told { OnOk result (IsTold (fork_of self.old.limits self.old.files pid.0) self.new) }
         ensures last { OnErr result
             (first (fork_of self.old.limits self.old.files pid.0).refusals ≡ None) }
         ensures err { OnErr result (self.new ≡ self.old) }
@@ -508,7 +491,18 @@ impl<A: Allocator> Tables<A> {
         }
         let child = self.processes.len();
         self.add_process(pid)?;
+        self.forget_losses();
         Ok(Answer::Num(child as u64))
+    }
+
+    /// Lets go what waits at listeners that no table names any more.
+    fn let_go(&mut self)
+        ensures { Leaves self.old self.new self.old.files }
+    {
+        // (only the prover needs it)
+        self.known();
+        self.store.known();
+        self.store.let_go();
     }
 
     /// Takes a number out of a process at which this descriptor stands.
@@ -526,52 +520,41 @@ impl<A: Allocator> Tables<A> {
 
     /// close(2): frees a descriptor number of a process that is there. A description that no table names
     /// and no waiter holds any more stays live until `take_dead` gives it. Refused, with nothing
-    /// changed: EBADF where `fd` names nothing. The time is constant.
+    /// changed: EBADF where `fd` names nothing. What waits at a listener is let go with its last name. The
+    /// time is constant, but for going over what is let go.
     pub fn close(&mut self, pid: Pid, fd: Fd) -> Answer
         requires { IsSome (table_of self.old.files pid.0) }
-        ensures { Does (close_of self.old.files pid.0 fd.0) result self.old self.new }
+        ensures does { Does (close_of self.old.files pid.0 fd.0) result self.old self.new }
+        ensures told { IsTold (close_of self.old.files pid.0 fd.0) self.new }
     {
-        // (only the prover needs it)
-        self.known();
         let Some(description) = self.lookup(pid, fd) else {
             return Answer::Refused(Errno::Ebadf);
         };
         if let Some(number) = index_of(fd) {
             self.unname(pid, number, description);
         }
+        self.let_go();
         Answer::Done
     }
 
-    /// execve(2): closes the numbers of a process that is there whose close-on-exec flag is on. It is
-    /// never refused. No connection waits yet, so none is let go. The time is that of going through its
-    /// table.
-    pub fn exec(&mut self, pid: Pid)
+    /// Frees the numbers of a process whose close-on-exec flag is on.
+    fn close_flagged(&mut self, pid: Pid)
         requires { IsSome (table_of self.old.files pid.0) }
-        ensures files { self.new ≡ record self.old
+        ensures { self.new ≡ record self.old
             { files = exec self.old.files pid.0; dying = self.new.dying } }
-        ensures quiet { without_abandoned (exec self.old.files pid.0)
-            ≡ (exec self.old.files pid.0, []) }
     {
-        // (only the prover needs it)
-        self.known();
         if let Some(table) = table_at(&self.processes, pid) {
             drop_names(&mut self.store, &table.slots, false);
             close_flagged(&mut self.processes, pid);
         }
     }
 
-    /// _exit(2): closes all numbers of a process that is there and ends it. Its number is never used
-    /// again. It is never refused. No connection waits yet, so none is let go. The time is that of going
-    /// through its table.
-    pub fn exit(&mut self, pid: Pid)
+    /// Frees all numbers of a process, which ends.
+    fn end_process(&mut self, pid: Pid)
         requires { IsSome (table_of self.old.files pid.0) }
-        ensures files { self.new ≡ record self.old
+        ensures { self.new ≡ record self.old
             { files = exit self.old.files pid.0; dying = self.new.dying } }
-        ensures quiet { without_abandoned (exit self.old.files pid.0)
-            ≡ (exit self.old.files pid.0, []) }
     {
-        // (only the prover needs it)
-        self.known();
         if let Some(table) = table_at(&self.processes, pid) {
             drop_names(&mut self.store, &table.slots, true);
             end(&mut self.processes, pid);
@@ -579,12 +562,36 @@ impl<A: Allocator> Tables<A> {
         }
     }
 
-    /// Holds a live description for a waiter: it lives until each hold is released, whether a table
+    /// execve(2): closes the numbers of a process that is there whose close-on-exec flag is on. It is
+    /// never refused. What waits at a listener is let go with its last name. The time is that of going
+    /// through its table, and over what is let go.
+    pub fn exec(&mut self, pid: Pid)
+        requires { IsSome (table_of self.old.files pid.0) }
+        ensures { Leaves self.old self.new (exec self.old.files pid.0) }
+    {
+        self.close_flagged(pid);
+        self.let_go();
+    }
+
+    /// _exit(2): closes all numbers of a process that is there and ends it. Its number is never used
+    /// again. It is never refused. What waits at a listener is let go with its last name. The time is
+    /// that of going through its table, and over what is let go.
+    pub fn exit(&mut self, pid: Pid)
+        requires { IsSome (table_of self.old.files pid.0) }
+        ensures { Leaves self.old self.new (exit self.old.files pid.0) }
+    {
+        self.end_process(pid);
+        self.let_go();
+    }
+
+    /// Holds a live description of an instance for a waiter: it lives until each hold is released, whether a table
     /// names it or not. It takes no memory; an `AllocError` comes where it is held 2^64 - 1 times, and
     /// leaves the tables. The time is constant.
     pub fn hold(&mut self, desc: DescId) -> Result<(), AllocError>
         requires live { IsSome (number_under self.old desc) }
         requires used { is_among self.old.dying (number_of self.old desc) ≡ false }
+        requires instance { is_instance (content_of self.old.files (number_of self.old desc))
+            ≡ true }
         ensures ok { OnOk result
             (self.new ≡ record self.old
             { holds = more_at self.old.holds (number_of self.old desc) }) }
@@ -757,8 +764,7 @@ impl<A: Allocator> Tables<A> {
 
     /// What always holds: no number stands under two keys, a key's number is live and has an object,
     /// what lives or is named has a key, what is no more isn't held, and the queue of the dying has
-    /// exactly the live descriptions that no table names and no waiter holds, each once. No connection
-    /// waits to be accepted.
+    /// exactly the live descriptions that no table names and no waiter holds, each once.
     pub fn known(&self)
         ensures { Sound self.now }
     {

@@ -1,7 +1,7 @@
 //! What the tables hold.
 ghost use Rattle.std.specs.Prelude.{◌&&◌, ◌==◌, ◌≡◌};
 
-use ep_base::{DescId, End, Raised};
+use ep_base::{DescId, End, Mask, Raised};
 use ep_object::Object;
 
 /// What a descriptor number names: the key of a description, and the close-on-exec flag.
@@ -74,4 +74,24 @@ pub struct Dead {
     pub other: Option<DescId>,
     /// What closing the end raised, at each end.
     pub raised: Raised,
+}
+
+/// What was found at a listener: the first of the connections that wait there.
+#[derive(Clone, Copy)]
+pub struct Found {
+    /// The key of the listener's description.
+    pub listener: DescId,
+    /// How many others came before and weren't accepted.
+    pub index: usize,
+    /// The number of the connection.
+    pub number: u64,
+}
+
+/// What was raised at a description whose connection lost its other end, because nobody will accept that any more.
+#[derive(Clone, Copy)]
+pub struct Loss {
+    /// The key of the description.
+    pub desc: DescId,
+    /// The bits that were raised there.
+    pub raised: Mask,
 }

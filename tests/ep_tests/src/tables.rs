@@ -111,11 +111,14 @@ fn expires(rt: &impl Abort, tables: &mut Tables, desc: DescId) -> Result<(), All
 #[test]
 fn a_held_description_lives_on(rt: HostRuntime) -> Result<(), Fail> {
     let mut tables = Tables::new(rt.alloc(), Limits::default())?;
-    let Some(desc) = tables.lookup(FIRST, Fd(0)) else {
+    tables.create(FIRST, false, Object::instance())?;
+    let Some(desc) = tables.lookup(FIRST, Fd(3)) else {
         return Err(Fail::from("no descriptor"));
     };
     tables.hold(desc)?;
-    tables.release(desc);
+    tables.close(FIRST, Fd(3));
     assert!(rt; tables.take_dead().is_none());
+    tables.release(desc);
+    assert!(rt; tables.take_dead().is_some());
     Ok(())
 }

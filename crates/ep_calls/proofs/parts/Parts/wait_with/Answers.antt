@@ -11,7 +11,7 @@ use Rattle.ep_calls.specs.Parts.{Parts}
 use Rattle.ep_calls.specs.Wait.{AreKeyed, IsPick, Waits, with_report}
 use Rattle.ep_calls.specs.declared.outcome.Outcome.{Outcome}
 use Rattle.ep_calls.proofs.OutcomeLemmas.{goes_told}
-use Rattle.ep_calls.proofs.WaitLemmas.{both_ok, coherent_parked, goes_parked, goes_reported, not_dying, parked_waiting, placed_waiting, stays_reported, wait_does}
+use Rattle.ep_calls.proofs.WaitLemmas.{both_ok, coherent_parked, goes_parked, goes_reported, not_dying, parked_waiting, placed_waiting, stays_reported, wait_does, waits_at_instance}
 use Rattle.ep_calls.proofs.PickLemmas.{noted_none}
 use Rattle.ep_calls.proofs.ReportLemmas.{no_numbers}
 use Rattle.ep_calls.proofs.parts.Parts.wait_with.Goals as goal
@@ -39,6 +39,12 @@ returns-then-at_once-clause-ok c =
     wait_does (IsPick p.tables c.args.instance (number_in x.max) chosen) c.args.step c.args.caller.0 o p new made.1 refl refl refl x (λ s at sound quiet legal stands pick.
     goes_reported p.tables x c.args.instance of p.graph p.clock p.interest c.args.step chosen keyed c.args.caller.0 s at legal stands pick new.interest o.answer o.picked made.0 why))
     (both_ok c.report.result _ _ c.report.ensures.ok c.report.ensures.raising))
+
+pub park-requires-clause-kind : goal.park-requires-clause-kind
+park-requires-clause-kind c =
+    let k = c.self.inside in
+    let of = subst (λ (q : Parts). Waits q.tables c.args.args c.args.instance) (sym c.self.view_is) c.requires.waits in
+    waits_at_instance k.tables c.args.args c.args.instance of
 
 pub park-requires-clause-used : goal.park-requires-clause-used
 park-requires-clause-used c =

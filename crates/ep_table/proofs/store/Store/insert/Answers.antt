@@ -1,10 +1,9 @@
-use Rattle.std.proofs.Common.{map, List, None, Option, Some, ap, arith, length, subst, sym, ◌+◌, ◌∙◌, ◌≡◌, ℕ}
+use Rattle.std.proofs.Common.{refl, map, List, None, Option, Some, ap, arith, length, subst, sym, ◌+◌, ◌∙◌, ◌≡◌, ℕ}
 use Rattle.slab.specs.Slab.{slab_len}
 use Rattle.std.proofs.Common.{count_by, is_some}
 use Rattle.ep_base.specs.declared.object.End.TheVariants.{First}
 use Rattle.ep_machine.specs.Objects.{Object}
 use Rattle.ep_table.proofs.OwnersLemmas.{owners_more}
-use Rattle.ep_table.proofs.QuietLemmas.{quiet_more}
 use Rattle.ep_table.proofs.TakingLemmas.{taking_push}
 use Rattle.ep_table.specs.Taking.{Taking}
 use Rattle.ep_table.specs.Stored.{counts, holds_in, names_in, objects, AllKeyed, key_number, queued, number_in, object_in, object_number_in, place_in, places}
@@ -12,6 +11,8 @@ use Rattle.ep_table.specs.Value.{Queue, Things}
 use Rattle.ep_table.specs.declared.words.Description.{Description}
 use Rattle.ep_table.specs.declared.words.Dying.{Dying}
 use Rattle.ep_table.specs.declared.words.Shared.{Shared}
+use Rattle.ep_table.proofs.ConnectedLemmas.{instances_more, stand_more}
+use Rattle.ep_table.specs.declared.words.Loss.{Loss}
 use Rattle.ep_table.proofs.QueueLemmas.{keyed_more}
 use Rattle.ep_table.proofs.InsertLemmas.{fewer_one, keys_more, objects_one, queue_one, Inserted, counted_more, holds_of, holds_one, inserted, inserts_one, places_one, roomier}
 use Rattle.ep_table.proofs.ByNumberLemmas.{contents_length}
@@ -24,10 +25,10 @@ overflow_add-self g c = omega (arith, c.in_ok-has_numbers.ensures.descriptions, 
 pub overflow_add-self-2 : goal.overflow_add-self-2
 overflow_add-self-2 g c = omega (arith, c.in_ok-has_numbers.ensures.objects, ap (λ (v : Things). length v.objects) c.self.view_is, contents_length object_number_in object_in c.self.inside.objects.slots c.self.inside.made)
 
-described : (g : Over) (c : goal.After-self-2-1 g) → Inserted c.self.inside.descriptions.slots c.insert_reserved-key.new.self.slots c.insert_reserved-key.result (record { number = c.self.inside.described; object_number = c.self.inside.made; object = c.vacant_key-at.result; end = First; names = 1; holds = 0 })
+described : (g : Over) (c : goal.After-clear g) → Inserted c.self.inside.descriptions.slots c.insert_reserved-key.new.self.slots c.insert_reserved-key.result (record { number = c.self.inside.described; object_number = c.self.inside.made; object = c.vacant_key-at.result; end = First; names = 1; holds = 0 })
 described g c = inserted c.self.inside.descriptions.slots c.reserve.new.descriptions c.insert_reserved-key.new.self c.insert_reserved-key.result _ c.reserve.ensures.descriptions c.insert_reserved-key.ensures.was_vacant c.insert_reserved-key.ensures.updates
 
-shared : (g : Over) (c : goal.After-self-2-1 g) → Inserted c.self.inside.objects.slots c.insert_reserved.new.self.slots c.vacant_key-at.result (record { number = c.self.inside.made; object = c.args.object; first = Some (record { 0 = c.insert_reserved-key.result }); second = None })
+shared : (g : Over) (c : goal.After-clear g) → Inserted c.self.inside.objects.slots c.insert_reserved.new.self.slots c.vacant_key-at.result (record { number = c.self.inside.made; object = c.args.object; first = Some (record { 0 = c.insert_reserved-key.result }); second = None })
 shared g c =
     let s : Shared = record { number = c.self.inside.made; object = c.args.object; first = Some (record { 0 = c.insert_reserved-key.result }); second = None } in
     let i = inserted c.self.inside.objects.slots c.reserve.new.objects c.insert_reserved.new.self c.insert_reserved.result s c.reserve.ensures.objects c.insert_reserved.ensures.was_vacant c.insert_reserved.ensures.updates in
@@ -57,13 +58,15 @@ invariant_of-self-2 g c =
       queue = subst (λ (xs : List ℕ). Queue (places c.insert_reserved-key.new.self.slots (k.described + 1)) (counts names_in c.insert_reserved-key.new.self.slots (k.described + 1)) (counts holds_in c.insert_reserved-key.new.self.slots (k.described + 1)) xs) (sym (ap queued c.reserve.ensures.dying)) (queue_one k.descriptions.slots c.insert_reserved-key.new.self.slots k.objects.slots c.insert_reserved.new.self.slots k.described k.made c.insert_reserved-key.result c.vacant_key-at.result c.args.object a b h (queued k.dying.items) c.self.invariant.queue);
       keyed = subst (λ (xs : List Dying). AllKeyed (map key_number c.insert_reserved-key.new.self.slots) xs) (sym c.reserve.ensures.dying) (keyed_more (map key_number k.descriptions.slots) (map key_number c.insert_reserved-key.new.self.slots) (record { 0 = c.insert_reserved-key.result }) k.described (keys_more k.descriptions.slots c.insert_reserved-key.new.self.slots c.insert_reserved-key.result (record { number = k.described; object_number = k.made; object = c.vacant_key-at.result; end = First; names = 1; holds = 0 }) a) k.dying.items c.self.invariant.keyed);
       fewer = fewer_one k.descriptions.slots c.insert_reserved-key.new.self.slots k.objects.slots c.insert_reserved.new.self.slots k.described k.made c.insert_reserved-key.result c.vacant_key-at.result c.args.object a b h k.named c.self.invariant.fewer;
-      taken = subst (λ (xs : List (Option Object)). Taking k.taken xs) (sym (objects_one k.descriptions.slots c.insert_reserved-key.new.self.slots k.objects.slots c.insert_reserved.new.self.slots k.described k.made c.insert_reserved-key.result c.vacant_key-at.result c.args.object a b h)) (taking_push k.taken (objects k.objects.slots k.made) c.self.invariant.taken c.args.object c.requires.unnamed);
-      owners = owners_more k.taken k.objects.slots c.insert_reserved.new.self.slots c.vacant_key-at.result _ (shared g c) c.self.invariant.owners;
-      quiet = quiet_more k.objects.slots c.insert_reserved.new.self.slots c.vacant_key-at.result _ (shared g c) c.requires.quiet c.self.invariant.quiet;
+      taken = subst (λ (xs : List (Option Object)). Taking k.taken.value xs) (sym (objects_one k.descriptions.slots c.insert_reserved-key.new.self.slots k.objects.slots c.insert_reserved.new.self.slots k.described k.made c.insert_reserved-key.result c.vacant_key-at.result c.args.object a b h)) (taking_push k.taken.value (objects k.objects.slots k.made) c.self.invariant.taken c.args.object c.requires.unnamed);
+      owners = owners_more k.taken.value k.objects.slots c.insert_reserved.new.self.slots c.vacant_key-at.result _ (shared g c) c.self.invariant.owners;
+      instances = instances_more k.descriptions.slots c.insert_reserved-key.new.self.slots k.objects.slots c.insert_reserved.new.self.slots c.insert_reserved-key.result c.vacant_key-at.result _ _ a b refl c.self.invariant.backed c.self.invariant.instances;
+      connected = stand_more k.waiting k.objects.slots k.made c.self.invariant.connected c.insert_reserved.new.self.slots c.vacant_key-at.result _ (shared g c) refl c.requires.quiet.accepted c.requires.quiet.alone;
+      loss_room = omega (arith, c.self.invariant.loss_room, c.clear.ensures.capacity, ap (λ (xs : List Loss). length xs) c.clear.ensures.items);
     }
 
 pub returns-clause-ok : goal.returns-clause-ok
 returns-clause-ok g c =
     let k = c.self.inside in
     inserts_one k.descriptions.slots c.insert_reserved-key.new.self.slots k.objects.slots c.insert_reserved.new.self.slots k.described k.made c.insert_reserved-key.result c.vacant_key-at.result c.args.object (described g c) (shared g c) (holds_of k c.self.invariant)
-    c.args.self.now _ _ (ap (λ (v : Things). v.descriptions) c.self.view_is) (ap (λ (v : Things). v.objects) c.self.view_is) (ap (λ (v : Things). v.keys) c.self.view_is) (ap (λ (v : Things). v.names) c.self.view_is) (ap (λ (v : Things). v.holds) c.self.view_is) (ap queued c.reserve.ensures.dying ∙ ap (λ (v : Things). v.dying) c.self.view_is) (ap (λ (v : Things). v.named) c.self.view_is)
+    c.args.self.now _ _ _ (ap (λ (v : Things). v.descriptions) c.self.view_is) (ap (λ (v : Things). v.objects) c.self.view_is) (ap (λ (v : Things). v.keys) c.self.view_is) (ap (λ (v : Things). v.names) c.self.view_is) (ap (λ (v : Things). v.holds) c.self.view_is) (ap queued c.reserve.ensures.dying ∙ ap (λ (v : Things). v.dying) c.self.view_is) (ap (λ (v : Things). v.named) c.self.view_is) c.clear.ensures.items

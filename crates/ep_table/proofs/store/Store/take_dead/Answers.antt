@@ -1,22 +1,26 @@
-use Rattle.std.proofs.Common.{[], ◌++◌, ◌∷◌, None, IsSome, List, Option, Some, ap, arith, get_or, length, map, refl, slice_set, subst, sym, ◌∙◌, ◌≡◌}
+use Rattle.std.proofs.Common.{[], ◌++◌, ◌∷◌, None, IsSome, List, Option, Some, ap, arith, get_or, length, map, refl, slice_set, subst, sym, if◌then◌else◌, ◌∙◌, ◌≡◌}
+use Rattle.ep_base.specs.declared.socket.Name.{Name}
 use Rattle.ep_machine.specs.Lists.{numbered}
+use Rattle.ep_machine.specs.Names.{is_there}
+use Rattle.ep_names.specs.Names.{Taken, owner_of}
 use Rattle.ep_table.specs.ByNumber.{NumberedBy}
 use Rattle.ep_table.specs.Closing.{closed_slot}
-use Rattle.ep_table.specs.Stored.{AllBacked, AllFewer, AllKeyed, AllOwned, AllQuiet, counts, holds_in, key_number, names_in, number_in, object_in, object_number_in, objects, places, queued, things}
+use Rattle.ep_table.specs.Stored.{AllBacked, AllFewer, AllInstances, AllKeyed, AllOwned, counts, holds_in, key_number, names_in, number_in, object_in, object_number_in, objects, places, queued, things}
 use Rattle.ep_table.specs.Value.{Queue, number_at}
 use Rattle.ep_table.specs.declared.store.Store.TheInside.{Inside}
 use Rattle.ep_table.specs.declared.words.Dying.{Dying}
 use Rattle.ep_table.specs.declared.words.Description.{Description}
 use Rattle.ep_table.specs.declared.words.Shared.{Shared}
-use Rattle.ep_table.proofs.CloseLemmas.{backed_left, counted_left, numbered_left, objects_left, objects_shut, owned_left}
+use Rattle.ep_table.proofs.CloseLemmas.{backed_left, counted_left, left_was, numbered_left, objects_left, objects_shut, owned_left}
 use Rattle.ep_machine.specs.Objects.{Object}
 use Rattle.ep_table.proofs.ByNumberLemmas.{content_there}
+use Rattle.ep_table.proofs.ConnectedLemmas.{all_stand, closed_follow, instances_fewer, instances_follow}
+use Rattle.ep_table.specs.Connected.{AllStand}
 use Rattle.ep_table.proofs.OwnersLemmas.{owners_closed}
 use Rattle.ep_table.proofs.TakingLemmas.{less_held, taking_closed}
 use Rattle.ep_table.specs.Taking.{AreOwners, Taking, freed_slot}
 use Rattle.ep_table.proofs.DieLemmas.{dies, fewer_left, keyed_left, queue_left}
 use Rattle.ep_table.proofs.QueueLemmas.{keyed_last}
-use Rattle.ep_table.proofs.QuietLemmas.{quiet_closed}
 use Rattle.ep_table.proofs.SoundLemmas.{there}
 use Rattle.ep_table.proofs.StoreLemmas.{key_at, object_there}
 use Rattle.ep_table.proofs.store.Store.take_dead.Goals as goal
@@ -56,6 +60,8 @@ invariant_of-self-2 g c =
     let num = number_at_last k rest last i.keyed split d is in
     let f = c.remove-description.ensures.slots in
     let g : c.close-other.new.objects.slots ≡ slice_set os d.object (closed_slot (Some (i.backed last.key.0 d is).it) d.end) = c.close-other.ensures.slots ∙ ap (λ (o : Option Shared). slice_set os d.object (closed_slot o d.end)) (i.backed last.key.0 d is).is in
+    let freed : (n : Name) → owner_of c.free_name.new.taken n ≡ (if is_there n c.close-other.result.2 then None else owner_of k.taken.value n) =
+    λ n. c.free_name.ensures n ∙ ap (λ (t : Taken). if is_there n c.close-other.result.2 then None else owner_of t n) c.deref_mut.ensures.value in
     record {
       descriptions = subst (λ (xs : List (Option Description)). NumberedBy number_in xs k.described) (sym f) (numbered_left ds os k.described k.made i.descriptions i.objects i.backed i.owned last.key d is);
       objects = subst (λ (xs : List (Option Shared)). NumberedBy object_number_in xs k.made) (sym g) (objects_left ds os k.described k.made i.descriptions i.objects i.backed i.owned last.key d is);
@@ -70,15 +76,23 @@ invariant_of-self-2 g c =
           let b = i.backed last.key.0 d is in
           subst (λ (xs : List (Option Object)). Taking c.free_name.new.taken xs)
           (sym (ap (λ (ys : List (Option Shared)). objects ys k.made) g ∙ objects_shut ds os k.described k.made i.descriptions i.objects i.backed i.owned last.key d is))
-          (taking_closed k.taken c.free_name.new.taken (objects os k.made) i.taken b.it.number b.it d.end (content_there object_number_in object_in os k.made i.objects d.object b.it b.is)
-          c.close-other.result.2 (c.close-other.ensures.name ∙ ap (λ (o : Option Shared). freed_slot o d.end) b.is) (less_held k.taken c.free_name.new.taken c.close-other.result.2 c.free_name.ensures));
+          (taking_closed k.taken.value c.free_name.new.taken (objects os k.made) i.taken b.it.number b.it d.end (content_there object_number_in object_in os k.made i.objects d.object b.it b.is)
+          c.close-other.result.2 (c.close-other.ensures.name ∙ ap (λ (o : Option Shared). freed_slot o d.end) b.is) (less_held k.taken.value c.free_name.new.taken c.close-other.result.2 freed));
       owners =
           let b = i.backed last.key.0 d is in
           subst (λ (xs : List (Option Shared)). AreOwners c.free_name.new.taken xs) (sym g)
-          (owners_closed k.taken c.free_name.new.taken os i.owners d.object b.it b.is d.end c.close-other.result.2 (c.close-other.ensures.name ∙ ap (λ (o : Option Shared). freed_slot o d.end) b.is) c.free_name.ensures);
-      quiet =
+          (owners_closed k.taken.value c.free_name.new.taken os i.owners d.object b.it b.is d.end c.close-other.result.2 (c.close-other.ensures.name ∙ ap (λ (o : Option Shared). freed_slot o d.end) b.is) freed);
+      instances =
           let b = i.backed last.key.0 d is in
-          subst (λ (xs : List (Option Shared)). AllQuiet xs) (sym g) (quiet_closed os i.quiet d.object b.it b.is d.end);
+          let was = instances_fewer ds (slice_set ds last.key.0 None) os (left_was ds os k.described k.made i.descriptions i.objects i.backed i.owned last.key d is) i.instances in
+          subst (λ (xs : List (Option Description)). AllInstances xs c.close-other.new.objects.slots) (sym f)
+          (subst (λ (xs : List (Option Shared)). AllInstances (slice_set ds last.key.0 None) xs) (sym g)
+          (instances_follow (slice_set ds last.key.0 None) os (slice_set os d.object (closed_slot (Some b.it) d.end)) (closed_follow os d.object b.it b.is d.end) was));
+      connected =
+          let b = i.backed last.key.0 d is in
+          subst (λ (xs : List (Option Shared)). AllStand k.waiting xs k.made) (sym g)
+          (all_stand k.waiting os (slice_set os d.object (closed_slot (Some b.it) d.end)) k.made (closed_follow os d.object b.it b.is d.end) i.connected);
+      loss_room = i.loss_room;
     }
 
 pub returns-clause-some : goal.returns-clause-some

@@ -1,7 +1,8 @@
-use Rattle.std.proofs.Common.{arith}
+use Rattle.std.proofs.Common.{arith, refl}
 use Rattle.ep_machine.specs.FilesCalls.{two_of}
 use Rattle.ep_table.proofs.DoesLemmas.{does_done, one_below, succeeds_two, two_is}
 use Rattle.ep_table.proofs.LookupLemmas.{one_is, second_is}
+use Rattle.ep_table.proofs.ToldLemmas.{nothing_told}
 use Rattle.ep_table.proofs.tables.Tables.create_two.Goals as goal
 
 pub fd_of-requires : goal.fd_of-requires
@@ -25,3 +26,8 @@ returns-clause-ok g c =
     let a = two_is v p c.lowest-first.result c.second-second.result c.fd_of.result c.fd_of-2.result m n c.fd_of.ensures c.fd_of-2.ensures in
     does_done (two_of v.limits v.files p c.args.object c.args.cloexec) _ v c.add_two.new.self c.requires.free
     (succeeds_two v c.add_two.new.self p c.args.object c.args.cloexec _ a c.in_ok-add_two.ensures.ok)
+
+pub returns-clause-told : goal.returns-clause-told
+returns-clause-told g c =
+    let v = c.args.self.now in
+    nothing_told (two_of v.limits v.files c.args.pid.0 c.args.object c.args.cloexec) c.add_two.new.self refl c.in_ok-add_two.ensures.ok.losses

@@ -4,7 +4,7 @@ use Rattle.ep_table.proofs.AcceptLemmas.{full_accept, other_accept}
 use Rattle.ep_table.proofs.DoesLemmas.{found_is}
 use Rattle.ep_table.proofs.LookupLemmas.{one_is}
 use Rattle.ep_table.specs.Value.{Seen, number_of}
-use Rattle.ep_table.proofs.tables.Tables.refuses_accept.Goals as goal
+use Rattle.ep_table.proofs.tables.Tables.acceptable.Goals as goal
 
 is_at_least : (m n : ℕ) → m ≤ n → nat_le m n ≡ true
 is_at_least m n h = grind (arith, nat_tests, h)
@@ -19,7 +19,7 @@ returns-then-descriptors-lowest g c =
     let n = one_is c.self.inside v p c.lowest.result c.deref.result.now c.self.view_is c.deref.ensures.value c.lowest.ensures in
     let x = found_is v p c.args.fd.0 c.in-Some.description c.in-Some.ensures.number c.in-Some.ensures.live in
     let h = is_at_least v.limits.descriptors c.lowest.result (omega (arith, c.descriptors.ensures.value, ap (λ (w : Seen). w.limits.descriptors) c.self.view_is)) in
-    full_accept v p c.args.fd.0 (number_of v c.in-Some.description) x (ap (nat_le v.limits.descriptors) (sym n) ∙ h)
+    record { ok = tt; err = full_accept v p c.args.fd.0 (number_of v c.in-Some.description) x (ap (nat_le v.limits.descriptors) (sym n) ∙ h) }
 
 pub returns-then-not-is_socket : goal.returns-then-not-is_socket
 returns-then-not-is_socket g c =
@@ -29,4 +29,4 @@ returns-then-not-is_socket g c =
     let x = found_is v p c.args.fd.0 c.in-Some.description c.in-Some.ensures.number c.in-Some.ensures.live in
     let below = c.if-descriptors-lowest.false in
     let h = is_below v.limits.descriptors c.lowest.result (omega (arith, below, c.descriptors.ensures.value, ap (λ (w : Seen). w.limits.descriptors) c.self.view_is)) in
-    other_accept v p c.args.fd.0 (number_of v c.in-Some.description) x (ap (nat_le v.limits.descriptors) (sym n) ∙ h) c.object-object.result.now c.object-object.ensures (sym c.is_socket.ensures ∙ c.if-not-is_socket.true)
+    record { ok = tt; err = other_accept v p c.args.fd.0 (number_of v c.in-Some.description) x (ap (nat_le v.limits.descriptors) (sym n) ∙ h) c.object-object.result.now c.object-object.ensures (sym c.is_socket.ensures ∙ c.if-not-is_socket.true) }
