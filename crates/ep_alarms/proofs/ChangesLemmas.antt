@@ -6,7 +6,7 @@ use Rattle.std.proofs.lemmas.Bool.{cases_lt, false≢true, leb-false}
 use Rattle.std.proofs.lemmas.List.{get_or-set_same, get_or_past}
 use Rattle.std.proofs.lemmas.Option.{none-some}
 use Rattle.ep_facts.proofs.OptionFacts.{value_of}
-use Rattle.ep_base.specs.declared.call.Call.TheVariants.{EpollCtl, EpollWait, TimerFd}
+use Rattle.ep_base.specs.declared.call.Call.TheVariants.{Accept, EpollCtl, EpollWait, TimerFd}
 use Rattle.ep_base.specs.declared.call.Event.{Event}
 use Rattle.ep_base.specs.declared.call.Event.TheVariants.{Call as CallOf, Resume, Tick}
 use Rattle.ep_base.specs.declared.ids.Pid.{Pid}
@@ -23,7 +23,8 @@ use Rattle.ep_calls.specs.declared.outcome.Outcome.{Outcome}
 use Rattle.ep_machine.specs.Objects.{ObjectCall, asks, object_refusals, plain}
 use Rattle.ep_machine.specs.Tables.{create_one, one_free, one_refusals, slot}
 use Rattle.ep_alarms.proofs.AreSetLemmas.{set_but, set_kept, timer_in}
-use Rattle.ep_alarms.proofs.FilesCallLemmas.{HaveObjects, MakesNoTimer, made_alone, others_left, timer_made}
+use Rattle.ep_alarms.proofs.FilesCallLemmas.{MakesNoTimer, made_alone, others_left, timer_made}
+use Rattle.ep_alarms.proofs.MadeLemmas.{HaveObjects}
 use Rattle.ep_alarms.proofs.ObjectEffectLemmas.{object_calls_leave, own_kept}
 use Rattle.ep_alarms.specs.Alarms.{AreSet, AreSetBut, IsKept, IsSetFor}
 use Rattle.ep_alarms.specs.Called.{IsCalled, asked_in, called_in}
@@ -40,7 +41,7 @@ use Rattle.ep_calls.specs.Clock.{ClockStays, Sets, Ticks}
 use Rattle.ep_calls.specs.ObjectCall.{object_call_of}
 use Rattle.ep_calls.specs.Parts.{AreOpening, Parts}
 use Rattle.ep_calls.specs.declared.raising.Raising.{Raising}
-use Rattle.ep_calls.specs.declared.raising.Raising.TheVariants.{Clock, Instance, Nowhere, Object as ObjectOf}
+use Rattle.ep_calls.specs.declared.raising.Raising.TheVariants.{Clock, Instance, Losses, Nowhere, Object as ObjectOf}
 use Rattle.ep_due.specs.DueMap.{Moments, SameMoments, moment_of}
 use Rattle.ep_alarms.specs.Changes.{AreSetSince, CallsTables, CreatesTimer, GoesOn, IsCreated, IsRefused, LeavesFiles, MovesClock, TouchesTables, WereSet}
 use Rattle.ep_law.specs.Laws.{HaveOwnEnds}
@@ -70,12 +71,14 @@ pub since_stays : (raising : Raising) (v : Seen) (before now : ℕ) (a : Moments
 since_stays Nowhere v before now a stays are_set = are_set
 since_stays (ObjectOf desc raised) v before now a stays are_set = are_set
 since_stays (Instance desc) v before now a stays are_set = are_set
+since_stays Losses v before now a stays are_set = are_set
 since_stays (Clock since) v before now a stays are_set = absurd stays
 
 pub clock_same : (raising : Raising) (before now : ℕ) → ClockStays raising before now → now ≡ before
 clock_same Nowhere before now stays = stays
 clock_same (ObjectOf desc raised) before now stays = stays
 clock_same (Instance desc) before now stays = stays
+clock_same Losses before now stays = stays
 clock_same (Clock since) before now stays = absurd stays
 
 -- what a call makes of the tables that isn't refused
@@ -151,7 +154,7 @@ module _ (p q : Parts) (a : Moments) (sound : SoundTables p.tables) (sound_now :
   others_set limits pid busy call answer is does =
       by_call (files_call limits p.tables.files pid busy call) answer p.tables q.tables does
       (λ e refuses. refused_set refuses.tables)
-      (λ accepted done. left_set (λ d. ap (λ (f : Files). timer_in f d) done.files ∙ others_left limits p.tables.files pid busy call have_objects sound.quiet is d))
+      (λ accepted done. left_set (λ d. ap (λ (f : Files). timer_in f d) done.files ∙ others_left limits p.tables.files pid busy call have_objects is d))
 
   -- a call on the object that a descriptor names
   module _ (ends : HaveOwnEnds p.tables.files) (pid : ℕ) (fd : Fd) (asked : ObjectCall) (answer : Answer) where
@@ -302,6 +305,9 @@ module _ (event : Event) (found : Option DescId) (outcome : Outcome) (has_room :
         → IsKept q.tables desc.0 a × AreSetBut q.tables q.clock desc.0 a
     on_object (EpollCtl epfd op fd mask tag) desc d at named did = absurd (none-some d (sym named ∙ at))
     on_object (EpollWait epfd most timeout) desc d at named did = absurd (none-some d (sym named ∙ at))
+    on_object (Accept fd cloexec) desc d at named did =
+        let all = on_tables (Accept fd cloexec) tt did in
+        (set_keeps q.tables q.clock a desc.0 all, λ k ne. all k)
     on_object call desc d at named did = on_asked call (asks p.tables.files.objects call) desc d at named did
 
     call_sets : (desc : DescId) (d : ℕ) → number_under p.tables desc ≡ Some d → number_under p.tables desc ≡ called_in p.tables.files (CallOf pid call)
@@ -324,6 +330,7 @@ module _ (event : Event) (found : Option DescId) (outcome : Outcome) (has_room :
     by_other (EpollCtl epfd op fd mask tag) creates none did = on_files did
     by_other (EpollWait epfd most timeout) creates none did = on_files did
     by_other (TimerFd kind cloexec) creates none did = absurd (creates kind cloexec refl)
+    by_other (Accept fd cloexec) creates none did = on_tables (Accept fd cloexec) tt did
     by_other call creates none did = by_asked call (asks p.tables.files.objects call) tt none did
 
     none_in : found ≡ None → called_in p.tables.files (CallOf pid call) ≡ None
@@ -367,6 +374,7 @@ module _ (event : Event) (found : Option DescId) (outcome : Outcome) (has_room :
   moved Nowhere on same = left_set p q a were.sound sound_now were.keys were.set on (λ d. ap (λ (f : Files). timer_in f d) same)
   moved (ObjectOf desc raised) on same = left_set p q a were.sound sound_now were.keys were.set on (λ d. ap (λ (f : Files). timer_in f d) same)
   moved (Instance desc) on same = left_set p q a were.sound sound_now were.keys were.set on (λ d. ap (λ (f : Files). timer_in f d) same)
+  moved Losses on same = left_set p q a were.sound sound_now were.keys were.set on (λ d. ap (λ (f : Files). timer_in f d) same)
 
   stayed : ClockStays outcome.raising p.clock q.clock → q.tables.files ≡ p.tables.files → AreSetSince outcome.raising q.tables q.clock a
   stayed stays same =

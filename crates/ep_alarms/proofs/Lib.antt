@@ -5,6 +5,8 @@ pub mod EarliestLemmas
 pub mod DropLemmas
 pub mod BurialLemmas
 pub mod AreSetLemmas
+pub mod MadeLemmas
+pub mod ConnectionLemmas
 pub mod FilesCallLemmas
 pub mod ObjectEffectLemmas
 pub mod ChangesLemmas

@@ -11,7 +11,7 @@ use Rattle.ep_machine.specs.Timer.{Timer}
 use Rattle.ep_object.proofs.TimerLemmas.{call_keeps_timer, timer_has_first}
 use Rattle.ep_object.specs.Next.{timer_of}
 use Rattle.ep_alarms.proofs.AreSetLemmas.{timer_in}
-use Rattle.ep_alarms.proofs.FilesCallLemmas.{placed_is, timer_placed}
+use Rattle.ep_alarms.proofs.MadeLemmas.{placed_is, timer_placed}
 use Rattle.ep_table.specs.Value.{content_of}
 
 none_is : (o : Option Timer) → is_some o ≡ false → o ≡ None

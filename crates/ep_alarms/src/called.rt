@@ -1,17 +1,15 @@
-//! The description on whose object an event is a call.
-ghost use Rattle.std.specs.Prelude.{◌≡◌, IfSome, IsSome, None, false};
-ghost use Rattle.ep_base.specs.declared.socket.Hearing.TheVariants.{Nobody};
-ghost use Rattle.ep_alarms.specs.Called.{IsCalled, fd_in};
-ghost use Rattle.ep_machine.specs.Objects.{object_call};
+//! The description on whose object an event is a call, or the listener of an accept.
+ghost use Rattle.std.specs.Prelude.{◌≡◌, IfSome, IsSome};
+ghost use Rattle.ep_alarms.specs.Called.{IsCalled, descriptor_in};
 ghost use Rattle.ep_table.specs.Value.{number_under};
 
 use ep_base::{Call, DescId, Event, Fd};
 use ep_calls::Parts;
 
-/// The descriptor on whose object a call is. `None` of a call that is on none.
+/// The descriptor on whose object a call is, or whose listener accepts. `None` of any other call.
 #[inline(always)]
 fn called_descriptor(call: &Call) -> Option<Fd>
-    ensures { result ≡ fd_in (object_call None Nobody call.now) }
+    ensures { result ≡ descriptor_in call.now }
 {
     match *call {
         Call::Read { fd, .. }
@@ -24,12 +22,14 @@ fn called_descriptor(call: &Call) -> Option<Fd>
         | Call::Listen { fd, .. }
         | Call::Connect { fd, .. }
         | Call::SetTime { fd, .. }
-        | Call::GetTime { fd } => Some(fd),
+        | Call::GetTime { fd }
+        | Call::Accept { fd, .. } => Some(fd),
         _ => None,
     }
 }
 
-/// The description on whose object an event is a call. `None` if it is no such call, or its descriptor names nothing.
+/// The description on whose object an event is a call, or of the listener of an accept. `None` if it is no such call,
+/// or its descriptor names nothing.
 pub fn find_called(parts: &Parts, event: &Event) -> Option<DescId>
     ensures called { IsCalled parts.now.tables event.now result }
     ensures live { IfSome result (λ desc. IsSome (number_under parts.now.tables desc)) }

@@ -11,13 +11,13 @@ use Rattle.ep_calls.proofs.KeyLemmas.{same_keys, under_key}
 use Rattle.ep_calls.specs.Parking.{raises_at, raises_in}
 use Rattle.ep_calls.specs.Raising.{IsRaising, clock_bits, object_bits, raised_bits}
 use Rattle.ep_calls.specs.declared.raising.Raising.{Raising}
-use Rattle.ep_calls.specs.declared.raising.Raising.TheVariants.{Clock, Instance, Nowhere, Object as AtObject}
+use Rattle.ep_calls.specs.declared.raising.Raising.TheVariants.{Clock, Instance, Losses, Nowhere, Object as AtObject}
 use Rattle.ep_law.proofs.NarrowLemmas.{has_in}
 use Rattle.ep_object.proofs.BitLemmas.{no_bit}
 use Rattle.ep_machine.specs.Bits.{IN, at_end, has_bit, nothing, when}
 use Rattle.ep_machine.specs.Files.{Place, object_at, object_number, object_of, place_of}
 use Rattle.ep_machine.specs.Objects.{Object, advance, instance, is_instance, plain}
-use Rattle.ep_table.specs.Value.{Seen, Sound, number_of, number_under}
+use Rattle.ep_table.specs.Value.{Seen, Sound, number_of, number_under, unwrapped}
 
 when_true : (b : Bool) (n i : ℕ) → bit_at (when b n) i ≡ 1 → b ≡ true
 when_true true n i h = refl
@@ -64,4 +64,7 @@ module _ (v : Seen) (sound : Sound v) (i : DescId) (d now : ℕ) (is : number_un
       in_when (number_of v desc == d)
       ∙ (ap (λ (k : ℕ). number_of v desc == k) (ap (λ (o : Option ℕ). unwrap_or o 0) (sym is))
       ∙ same_keys v desc i sound lives (subst (λ (o : Option ℕ). IsSome o) (sym is) refl))
+  raises_in_is Losses lives =
+      let none = lives.1 d (ap (λ (x : Option Object). is_instance (unwrapped x)) here) in
+      not_in (raised_bits Losses v now d) (λ h. no_bit 0 (ap (λ (n : ℕ). bit_at n 0) (sym none) ∙ h))
   raises_in_is (Clock since) lives = not_in (raised_bits (Clock since) v now d) (λ h. clock_there since (place_of v.files d) here h)

@@ -44,9 +44,6 @@ module _ (call : FilesCall) (answer : Answer) (v new : Seen) (does : Does call a
   pub does_holds : KeepsHolds v new
   does_holds = either (KeepsHolds v new) (λ d. d.holds) (λ e r. subst (λ (x : Seen). KeepsHolds v x) (sym r.tables) (λ n. refl))
 
-  pub does_raised : first call.refusals ≡ None → call.raised ≡ []
-  does_raised h = (subst (λ (o : Option Errno). MatchOption o (Succeeds call answer v new) (λ e. Refuses e answer v new)) h does).raised
-
   pub does_limits : new.limits ≡ v.limits
   does_limits = either (new.limits ≡ v.limits) (λ d. d.limits) (λ e r. ap (λ (x : Seen). x.limits) r.tables)
 

@@ -7,6 +7,7 @@ pub mod FindLemmas
 pub mod AdditionLemmas
 pub mod OtherEndLemmas
 pub mod DueLemmas
+pub mod LossLemmas
 pub mod RaiseLemmas
 pub mod NothingRaisedLemmas
 pub mod ObjectRaiseLemmas
@@ -23,6 +24,7 @@ pub mod RoomLemmas
 pub mod WaitLemmas
 pub mod JoinLemmas
 pub mod FilesCallLemmas
+pub mod TableRaiseLemmas
 pub mod TableCallLemmas
 pub mod PurgeLemmas
 pub mod BurialLemmas

@@ -1,5 +1,5 @@
 -- Calls on the object that a descriptor names.
-use Rattle.std.proofs.Common.{◌≡◌, ◌≤◌, ℕ, ℤ, Bool, false, true, List, [], ◌∷◌, Option, Some, None, IsSome, is_none, max, min, slice_index_or, slice_set, unwrap_or, refl, ap, sym, ◌∙◌, arith, subst}
+use Rattle.std.proofs.Common.{◌≡◌, ◌≤◌, ℕ, ℤ, Bool, false, true, List, ◌∷◌, Option, Some, None, IsSome, is_none, max, min, slice_index_or, slice_set, unwrap_or, refl, ap, sym, ◌∙◌, arith, subst}
 use Rattle.std.specs.Prelude.{MatchOption}
 use Rattle.std.specs.declared.alloc.Global.{Global}
 use Rattle.std.proofs.lemmas.Bool.{false≢true}
@@ -107,19 +107,18 @@ module _ (old new : Seen) (d now : ℕ) (asked : ObjectCall) (answer : Answer) (
   after f = record old { files = with_object old.files (object_number (place_of old.files d)) f.1 }
 
   -- where this is the call
-  does_by : (c : FilesCall) → c.answer ≡ effect.0 → c.after ≡ affected old.files d effect → c.raised ≡ [] → (refusal : Option Errno) → answer ≡ (unless refusal content effect).0 → new ≡ after (unless refusal content effect)
+  does_by : (c : FilesCall) → c.answer ≡ effect.0 → c.after ≡ affected old.files d effect → (refusal : Option Errno) → answer ≡ (unless refusal content effect).0 → new ≡ after (unless refusal content effect)
       → MatchOption refusal (Succeeds c answer old new) (λ e. Refuses e answer old new)
-  does_by c told left none (Some e) is tables = record {
+  does_by c told left (Some e) is tables = record {
     answers = is;
     tables = tables ∙ ap (λ (f : Files). record old { files = f }) (object_back old.files (place_of old.files d) content (content_is (object_of old.files d) lives));
   }
-  does_by c told left none None is tables = record {
+  does_by c told left None is tables = record {
     answers = is ∙ sym told;
     files = ap (λ (v : Seen). v.files) tables ∙ sym left;
     limits = ap (λ (v : Seen). v.limits) tables;
     keys = λ key k h. ap (λ (v : Seen). slice_index_or v.keys key.0 None) tables ∙ h;
     holds = λ k. ap (λ (v : Seen). holds_of v k) tables;
-    raised = none;
   }
 
 -- what a descriptor that is found names
@@ -156,4 +155,4 @@ calls_object old new p fd desc now asked answer found there lives is tables =
     let told = ap (λ (d : ℕ). (object_effect (content_of f d) (side_of f d) now asked).0) number in
     let left = ap (λ (d : ℕ). affected f d (object_effect (content_of f d) (side_of f d) now asked)) number in
     let P : Option Errno → Type 0 = λ r. MatchOption r (Succeeds c answer old new) (λ e. Refuses e answer old new) in
-    subst P (sym (refusals_are old p fd desc found there now asked)) (does_by old new (number_of old desc) now asked answer lives c told left refl _ is tables)
+    subst P (sym (refusals_are old p fd desc found there now asked)) (does_by old new (number_of old desc) now asked answer lives c told left _ is tables)

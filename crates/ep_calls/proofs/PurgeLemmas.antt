@@ -10,15 +10,16 @@ use Rattle.ep_machine.specs.Files.{side_of}
 use Rattle.ep_nest.specs.Links.{is_apart_from as has_no_end}
 use Rattle.ep_nest.specs.declared.link.Link.{Link}
 use Rattle.ep_calls.specs.Climb.{KeepsLinks, is_nested, is_nested_key, link_of}
-use Rattle.ep_calls.specs.Raising.{Stirs, bits_of, due_bits, raised_each, raised_there}
+use Rattle.ep_calls.specs.Raising.{Stirs, bits_of, due_bits, raised_each, raised_there, raised_where}
 use Rattle.ep_calls.specs.declared.raising.Raising.{Raising}
-use Rattle.ep_calls.specs.declared.raising.Raising.TheVariants.{Clock, Instance, Nowhere, Object}
+use Rattle.ep_calls.specs.declared.raising.Raising.TheVariants.{Clock, Instance, Losses, Nowhere, Object}
 use Rattle.ep_calls.proofs.OtherEndLemmas.{noted}
 use Rattle.ep_calls.proofs.EntryKeyLemmas.{ids_left, left_was, links_named}
 use Rattle.ep_calls.proofs.GraphLemmas.{links_by_keys, links_filtered, links_mapped}
 use Rattle.ep_table.specs.Closing.{opposite}
 use Rattle.ep_table.specs.Live.{live_ids}
 use Rattle.ep_table.specs.Value.{Seen, number_of}
+use Rattle.ep_table.specs.declared.words.Loss.{Loss}
 
 -- what is raised at a description leaves each link
 raised_link : (r : Registrations) (d : DescId) (m : Mask) (n : ℕ) (x : Entry) → link_of r (raised_on d m n x) ≡ link_of r x
@@ -41,6 +42,10 @@ links_each : (r : Registrations) (v : Seen) (f : DescId → Mask) (n : ℕ) (ids
 links_each r v f n [] xs = refl
 links_each r v f n (id ∷ ids) xs = links_each r v f n ids (map (raised_on id (f id) n) xs) ∙ links_raised r v id (f id) n xs
 
+links_where : (r : Registrations) (v : Seen) (n : ℕ) (ls : List Loss) (xs : List Entry) → map (link_of r) (filter (is_nested v) (raised_where n ls xs)) ≡ map (link_of r) (filter (is_nested v) xs)
+links_where r v n [] xs = refl
+links_where r v n (l ∷ ls) xs = links_where r v n ls (map (raised_on l.desc l.raised n) xs) ∙ links_raised r v l.desc l.raised n xs
+
 pub links_stirred : (raising : Raising) (v : Seen) (now n : ℕ) (old new : Registrations) → Stirs raising v now n old new → map (link_of new) (filter (is_nested v) new.entries) ≡ map (link_of old) (filter (is_nested v) old.entries)
 links_stirred Nowhere v now n old new h = ap (λ (r : Registrations). map (link_of r) (filter (is_nested v) r.entries)) h
 links_stirred (Object desc raised) v now n old new h =
@@ -51,6 +56,9 @@ links_stirred (Object desc raised) v now n old new h =
 links_stirred (Instance desc) v now n old new h =
     links_by_keys old new (is_nested v) new.entries h.2
     ∙ (ap (λ (xs : List Entry). map (link_of old) (filter (is_nested v) xs)) h.0 ∙ links_raised old v desc (bits_of IN) n old.entries)
+links_stirred Losses v now n old new h =
+    links_by_keys old new (is_nested v) new.entries h.2
+    ∙ (ap (λ (xs : List Entry). map (link_of old) (filter (is_nested v) xs)) h.0 ∙ links_where old v n v.losses old.entries)
 links_stirred (Clock since) v now n old new h =
     links_by_keys old new (is_nested v) new.entries h.2
     ∙ (ap (λ (xs : List Entry). map (link_of old) (filter (is_nested v) xs)) h.0 ∙ links_each old v (due_bits v since now) n (live_ids v.keys) old.entries)

@@ -19,10 +19,11 @@ use Rattle.ep_machine.specs.Objects.{advance, plain}
 use Rattle.ep_calls.specs.Raising.{IsRaising, IsUntimed, Stirs, bits_of, clock_bits, due_bits, object_bits, raised_bits, raised_each, raised_there}
 use Rattle.ep_calls.specs.Stands.{AreLinked, IsLinked, number_at, watch_at}
 use Rattle.ep_calls.specs.declared.raising.Raising.{Raising}
-use Rattle.ep_calls.specs.declared.raising.Raising.TheVariants.{Clock, Instance, Nowhere, Object}
+use Rattle.ep_calls.specs.declared.raising.Raising.TheVariants.{Clock, Instance, Losses, Nowhere, Object}
 use Rattle.ep_view.specs.KernelView.{freshened_by}
 use Rattle.ep_calls.proofs.OtherEndLemmas.{a_place, elsewhere, link_noted, noted, off_own, some_place, watch_noted, zero_noted}
 use Rattle.ep_calls.proofs.KeyLemmas.{same_keys, under_key}
+use Rattle.ep_calls.proofs.LossLemmas.{lose_each, losses_each, map_same, map_twice, where_map}
 use Rattle.ep_table.specs.Closing.{IsAt, across, opposite}
 use Rattle.ep_table.specs.Live.{live_from, live_ids}
 use Rattle.ep_table.specs.Value.{Seen, Sound, number_of, number_under}
@@ -44,10 +45,6 @@ module _ (v : Seen) (n : ℕ) (bits : ℕ → ℕ) (f : Entry → Entry) (each :
         watches = λ i. one i ∷ rest.watches i;
         linked = All-cons (IsLinked v.keys) (f x) (map f xs) (subst (IsLinked v.keys) (sym (each x link)) (link_noted v.keys n b x link)) rest.linked;
       }
-
-map_twice : (f g : Entry → Entry) (xs : List Entry) → map g (map f xs) ≡ map (λ x. g (f x)) xs
-map_twice f g [] = refl
-map_twice f g (x ∷ xs) = ap (λ (ys : List Entry). g (f x) ∷ ys) (map_twice f g xs)
 
 -- At the two ends of an object.
 abbrev side_at : Option Place → End
@@ -113,10 +110,7 @@ arrive_each f n [] x = x
 arrive_each f n (id ∷ ids) x = arrive_each f n ids (raised_on id (f id) n x)
 
 each_map : (f : DescId → Mask) (n : ℕ) (ids : List DescId) (xs : List Entry) → raised_each f n ids xs ≡ map (arrive_each f n ids) xs
-each_map f n [] xs = sym (map_same xs) where
-  map_same : (ys : List Entry) → map (λ y. y) ys ≡ ys
-  map_same [] = refl
-  map_same (y ∷ ys) = ap (λ (zs : List Entry). y ∷ zs) (map_same ys)
+each_map f n [] xs = sym (map_same xs)
 each_map f n (id ∷ ids) xs = each_map f n ids (map (raised_on id (f id) n) xs) ∙ map_twice (raised_on id (f id) n) (arrive_each f n ids) xs
 
 abbrev pub among_ids : List DescId → ℕ → Bool
@@ -192,17 +186,17 @@ instance_each v desc n sound lives x link =
 
 pub stirs_watches : (raising : Raising) (v : Seen) (now n : ℕ) (old new : Registrations) → Stirs raising v now n old new → Sound v → IsRaising raising v → AreLinked v old → Freshens v n (raised_bits raising v now) old.entries new.entries
 stirs_watches Nowhere v now n old new h sound is linked =
-    subst (λ (xs : List Entry). Freshens v n (λ d. 0) old.entries xs) (map_itself old.entries ∙ ap (λ (r : Registrations). r.entries) (sym h))
-    (freshens v n (λ d. 0) (λ x. x) (λ x link. sym (zero_noted n x)) old.entries linked) where
-      map_itself : (ys : List Entry) → map (λ y. y) ys ≡ ys
-      map_itself [] = refl
-      map_itself (y ∷ ys) = ap (λ (zs : List Entry). y ∷ zs) (map_itself ys)
+    subst (λ (xs : List Entry). Freshens v n (λ d. 0) old.entries xs) (map_same old.entries ∙ ap (λ (r : Registrations). r.entries) (sym h))
+    (freshens v n (λ d. 0) (λ x. x) (λ x link. sym (zero_noted n x)) old.entries linked)
 stirs_watches (Object desc raised) v now n old new h sound is linked =
     subst (λ (xs : List Entry). Freshens v n (raised_bits (Object desc raised) v now) old.entries xs) (sym (map_twice _ _ old.entries) ∙ sym h.entries)
     (freshens v n (raised_bits (Object desc raised) v now) _ (λ x link. object_each v desc raised n sound is.0 h.other h.is_at x link) old.entries linked)
 stirs_watches (Instance desc) v now n old new h sound is linked =
     subst (λ (xs : List Entry). Freshens v n (raised_bits (Instance desc) v now) old.entries xs) (sym h.0)
     (freshens v n (raised_bits (Instance desc) v now) (raised_on desc (bits_of IN) n) (λ x link. instance_each v desc n sound is x link) old.entries linked)
+stirs_watches Losses v now n old new h sound is linked =
+    subst (λ (xs : List Entry). Freshens v n (raised_bits Losses v now) old.entries xs) (sym (where_map n v.losses old.entries) ∙ sym h.0)
+    (freshens v n (raised_bits Losses v now) (lose_each n v.losses) (λ x link. losses_each v n sound v.losses is.0 x link) old.entries linked)
 stirs_watches (Clock since) v now n old new h sound is linked =
     subst (λ (xs : List Entry). Freshens v n (raised_bits (Clock since) v now) old.entries xs) (sym (each_map (due_bits v since now) n (live_ids v.keys) old.entries) ∙ sym h.0)
     (freshens v n (raised_bits (Clock since) v now) (arrive_each (due_bits v since now) n (live_ids v.keys)) (λ x link. clock_each v since now n sound x link) old.entries linked)
@@ -211,6 +205,7 @@ pub stirs_added : (raising : Raising) (v : Seen) (now n : ℕ) (old new : Regist
 stirs_added Nowhere v now n old new h = ap (λ (r : Registrations). r.added) h
 stirs_added (Object desc raised) v now n old new h = h.added
 stirs_added (Instance desc) v now n old new h = h.1
+stirs_added Losses v now n old new h = h.1
 stirs_added (Clock since) v now n old new h = h.1
 
 -- what isn't raised by the clock
@@ -218,4 +213,5 @@ pub untimed : (raising : Raising) → ((since : ℕ) → raising ≡ Clock since
 untimed Nowhere none = tt
 untimed (Object desc raised) none = tt
 untimed (Instance desc) none = tt
+untimed Losses none = tt
 untimed (Clock since) none = none since refl

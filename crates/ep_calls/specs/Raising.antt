@@ -19,18 +19,25 @@ use Rattle.ep_machine.specs.Tables.{affected_raises}
 use Rattle.ep_machine.specs.Timer.{last_moment}
 use Rattle.ep_calls.specs.ObjectCall.{object_effect_of}
 use Rattle.ep_calls.specs.declared.raising.Raising.{Raising}
-use Rattle.ep_calls.specs.declared.raising.Raising.TheVariants.{Clock, Instance, Nowhere, Object}
+use Rattle.ep_calls.specs.declared.raising.Raising.TheVariants.{Clock, Instance, Losses, Nowhere, Object}
 use Rattle.ep_table.specs.Closing.{IsAt, across, opposite}
 use Rattle.ep_table.specs.Live.{live_ids}
-use Rattle.ep_table.specs.Value.{Seen, content_of, number_of, number_under}
+use Rattle.ep_table.specs.Value.{AreLive, Seen, content_of, losses_of, number_of, number_under}
+use Rattle.ep_table.specs.declared.words.Loss.{Loss}
 
--- its description lives, its moment is one, and no call raises anything at the object of an instance
+-- what the last call on the tables raised by letting connections go, at a description
+abbrev pub lost_at : Seen → ℕ → ℕ
+lost_at v d = raised_of (losses_of v.keys v.losses) d
+
+-- its descriptions live, its moment is one, and no call raises anything at the object of an instance
 abbrev pub IsRaising : Raising → Seen → Type 0
 IsRaising Nowhere v = Unit {0}
 IsRaising (Object desc raised) v =
     IsSome (number_under v desc)
     × (is_instance (content_of v.files (number_of v desc)) ≡ true → raised ≡ nothing)
 IsRaising (Instance desc) v = IsSome (number_under v desc)
+IsRaising Losses v =
+    AreLive v.keys v.losses × ((d : ℕ) → is_instance (content_of v.files d) ≡ true → lost_at v d ≡ 0)
 IsRaising (Clock since) v = since ≤ last_moment
 
 -- the clock is not what raises
@@ -65,12 +72,19 @@ abbrev pub raised_each : (DescId → Mask) → ℕ → List DescId → List Entr
 raised_each bits n [] xs = xs
 raised_each bits n (id ∷ ids) xs = raised_each bits n ids (map (raised_on id (bits id) n) xs)
 
+-- where connections were let go, at each description in turn
+abbrev pub raised_where : ℕ → List Loss → List Entry → List Entry
+raised_where n [] xs = xs
+raised_where n (l ∷ ls) xs = raised_where n ls (map (raised_on l.desc l.raised n) xs)
+
 -- in event n
 abbrev pub Stirs : Raising → Seen → ℕ → ℕ → Registrations → Registrations → Type 0
 Stirs Nowhere v now n old new = new ≡ old
 Stirs (Object desc raised) v now n old new = RaisesObject v desc raised n old new
 Stirs (Instance desc) v now n old new =
     (new.entries ≡ map (raised_on desc (bits_of IN) n) old.entries) × (new.added ≡ old.added) × (new.keys ≡ old.keys)
+Stirs Losses v now n old new =
+    (new.entries ≡ raised_where n v.losses old.entries) × (new.added ≡ old.added) × (new.keys ≡ old.keys)
 Stirs (Clock since) v now n old new =
     (new.entries ≡ raised_each (due_bits v since now) n (live_ids v.keys) old.entries) × (new.added ≡ old.added) × (new.keys ≡ old.keys)
 
@@ -87,6 +101,7 @@ abbrev pub raised_bits : Raising → Seen → ℕ → ℕ → ℕ
 raised_bits Nowhere v now d = 0
 raised_bits (Object desc raised) v now d = object_bits (object_number (place_of v.files (number_of v desc))) raised (place_of v.files d)
 raised_bits (Instance desc) v now d = when (number_of v desc == d) IN
+raised_bits Losses v now d = lost_at v d
 raised_bits (Clock since) v now d = clock_bits v.files since now (place_of v.files d)
 
 -- the kernel notes what the machine raises, at each description

@@ -2,7 +2,7 @@
 ghost use Rattle.std.specs.Prelude.{◌≡◌, IsSome, map, ℕ};
 ghost use Rattle.ep_interest.specs.Registrations.{raised_on};
 ghost use Rattle.ep_machine.specs.Bits.{at_end as bits_at};
-ghost use Rattle.ep_calls.specs.Raising.{IsRaising, IsUntimed, RaisesObject, Stirs, raised_there};
+ghost use Rattle.ep_calls.specs.Raising.{IsRaising, IsUntimed, RaisesObject, Stirs, raised_there, raised_where};
 ghost use Rattle.ep_table.specs.Closing.{opposite};
 ghost use Rattle.ep_table.specs.Value.{number_under};
 
@@ -10,7 +10,7 @@ use crate::Parts;
 use bitflags::Flags;
 use ep_base::{DescId, End, EventNumber, Mask, Moment, Raised};
 use ep_interest::Interest;
-use ep_table::Tables;
+use ep_table::{Loss, Tables};
 
 /// Where an event raised bits before any description died.
 #[derive(Clone, Copy)]
@@ -21,6 +21,8 @@ pub enum Raising {
     Object { desc: DescId, raised: Raised },
     /// At an instance, in which a registration is reportable that was added or modified.
     Instance { desc: DescId },
+    /// At the descriptions whose connections lost their other end by a call on the tables, which tell them.
+    Losses,
     /// At timers, by the clock going on from this moment.
     Clock { since: Moment },
 }
@@ -91,6 +93,17 @@ fn raise_object(
     );
 }
 
+/// Raises at each description whose connection lost its other end.
+fn raise_losses(interest: &mut Interest, losses: &[Loss], step: EventNumber)
+    ensures entries { interest.new.entries ≡ raised_where step losses.now interest.old.entries }
+    ensures keys { interest.new.keys ≡ interest.old.keys }
+    ensures added { interest.new.added ≡ interest.old.added }
+{
+    for loss in losses {
+        raise_at(interest, loss.desc, loss.raised, step);
+    }
+}
+
 /// Notes in registrations what an event raised other than by the clock.
 #[inline(always)]
 fn raise_all(tables: &Tables, interest: &mut Interest, raising: Raising, step: EventNumber)
@@ -103,6 +116,7 @@ fn raise_all(tables: &Tables, interest: &mut Interest, raising: Raising, step: E
         Raising::Nowhere => {}
         Raising::Object { desc, raised } => raise_object(tables, interest, desc, raised, step),
         Raising::Instance { desc } => raise_at(interest, desc, Mask::IN, step),
+        Raising::Losses => raise_losses(interest, tables.losses(), step),
         Raising::Clock { .. } => unreachable!(),
     }
 }

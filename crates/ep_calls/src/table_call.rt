@@ -1,6 +1,6 @@
 //! Calls on the tables alone: those that open descriptors of a new object, and those on descriptors and processes.
 ghost use Rattle.std.specs.List.{list_any};
-ghost use Rattle.std.specs.Prelude.{ℕ, ◌≡◌, [], IfOk, IsOk, IsSome, None, OnErr, false, is_some, true};
+ghost use Rattle.std.specs.Prelude.{ℕ, ◌≡◌, [], IfOk, IsOk, IsSome, None, OnErr, OnOk, false, is_some, true};
 ghost use Rattle.ep_machine.specs.Effect.{first};
 ghost use Rattle.ep_machine.specs.Files.{table_of};
 ghost use Rattle.ep_machine.specs.FilesCalls.{exec_of, exit_of, timerfd_of};
@@ -9,8 +9,8 @@ ghost use Rattle.ep_calls.specs.Clock.{ClockStays};
 ghost use Rattle.ep_calls.specs.Does.{DoesCall};
 ghost use Rattle.ep_calls.specs.Last.{NothingRefusesCall};
 ghost use Rattle.ep_calls.specs.Spared.{Frees};
-ghost use Rattle.ep_calls.specs.TableCall.{IsTableCall, MakesTimer, called};
-ghost use Rattle.ep_table.specs.Value.{Does};
+ghost use Rattle.ep_calls.specs.TableCall.{IsTableCall, MakesTimer, called, raised_by};
+ghost use Rattle.ep_table.specs.Value.{Does, IsTold};
 
 use crate::raising::Raising;
 use crate::{Outcome, Parts};
@@ -35,6 +35,8 @@ fn create_timer(
     ensures ok { IfOk result
         (λ answer. Does (timerfd_of tables.old.limits tables.old.files pid.0 clock cloexec) answer
         tables.old tables.new) }
+    ensures told { OnOk result
+        (IsTold (timerfd_of tables.old.limits tables.old.files pid.0 clock cloexec) tables.new) }
     ensures last { OnErr result
         (first (timerfd_of tables.old.limits tables.old.files pid.0 clock cloexec).refusals
         ≡ None) }
@@ -54,8 +56,10 @@ fn create_timer(
 /// execve(2): closes the descriptors with close-on-exec, or EBUSY if a caller of the process is parked.
 fn exec(tables: &mut Tables, waiters: &Park, pid: Pid) -> Answer
     requires { IsSome (table_of tables.old.files pid.0) }
-    ensures { Does (exec_of tables.old.files pid.0 (list_any (is_of pid.0) waiters.now)) result
-        tables.old tables.new }
+    ensures does { Does (exec_of tables.old.files pid.0 (list_any (is_of pid.0) waiters.now))
+        result tables.old tables.new }
+    ensures told { IsTold (exec_of tables.old.files pid.0 (list_any (is_of pid.0) waiters.now))
+        tables.new }
 {
     if waiters.any_of(pid) {
         return Answer::Refused(Errno::Ebusy);
@@ -67,8 +71,10 @@ fn exec(tables: &mut Tables, waiters: &Park, pid: Pid) -> Answer
 /// _exit(2): closes all descriptors and ends the process, or EBUSY if a caller of it is parked.
 fn exit(tables: &mut Tables, waiters: &Park, pid: Pid) -> Answer
     requires { IsSome (table_of tables.old.files pid.0) }
-    ensures { Does (exit_of tables.old.files pid.0 (list_any (is_of pid.0) waiters.now)) result
-        tables.old tables.new }
+    ensures does { Does (exit_of tables.old.files pid.0 (list_any (is_of pid.0) waiters.now))
+        result tables.old tables.new }
+    ensures told { IsTold (exit_of tables.old.files pid.0 (list_any (is_of pid.0) waiters.now))
+        tables.new }
 {
     if waiters.any_of(pid) {
         return Answer::Refused(Errno::Ebusy);
@@ -94,6 +100,8 @@ fn answer_of(
     ensures ok { IfOk result
         (λ answer. Does (called tables.old waiters.now pid.0 call.now) answer tables.old
         tables.new) }
+    ensures told { OnOk result
+        (IsTold (called tables.old waiters.now pid.0 call.now) tables.new) }
     ensures last { OnErr result
         (first (called tables.old waiters.now pid.0 call.now).refusals ≡ None) }
     ensures room { has_room ≡ false → MakesTimer call.now → tables.new ≡ tables.old }
@@ -127,6 +135,16 @@ fn answer_of(
         Call::Exit => Ok(exit(tables, waiters, pid)),
         Call::Accept { fd, cloexec } => tables.accept(pid, fd, cloexec),
         _ => unreachable!(),
+    }
+}
+
+/// What a call on the tables raised that is answered so. One that is refused lets no connection go.
+fn raising_by(answer: &Answer) -> Raising
+    ensures { result ≡ raised_by answer.now }
+{
+    match answer {
+        Answer::Refused(_) => Raising::Nowhere,
+        _ => Raising::Losses,
     }
 }
 
@@ -167,6 +185,7 @@ impl Parts {
             call,
             has_room,
         )?;
-        Ok(Outcome::settled(answer, Raising::Nowhere))
+        let raising = raising_by(&answer);
+        Ok(Outcome::settled(answer, raising))
     }
 }

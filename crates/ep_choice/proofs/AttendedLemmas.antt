@@ -27,7 +27,7 @@ use Rattle.ep_calls.specs.Raising.{AsRaised, AsRaisedIn, raised_bits}
 use Rattle.ep_calls.specs.Stands.{IsPlaced, KeepsKeys, number_at, waiters_at}
 use Rattle.ep_calls.specs.declared.outcome.Outcome.{Outcome}
 use Rattle.ep_calls.specs.declared.raising.Raising.{Raising}
-use Rattle.ep_calls.specs.declared.raising.Raising.TheVariants.{Clock, Instance, Nowhere, Object as AtObject}
+use Rattle.ep_calls.specs.declared.raising.Raising.TheVariants.{Clock, Instance, Losses, Nowhere, Object as AtObject}
 use Rattle.ep_climb.proofs.MarkLemmas.{lives_where}
 use Rattle.ep_climb.specs.Mark.{attended, attends, left_at, resumed_at}
 use Rattle.ep_law.proofs.ListLemmas.{any_has, any_member, any_same, member_map}
@@ -323,6 +323,7 @@ module _ (past : List Record) (old mid left : Parts) (keeps : Keeps past old) (c
     by_raising Nowhere = refl
     by_raising (AtObject desc raised) = refl
     by_raising (Instance desc) = turned desc.0 e
+    by_raising Losses = refl
     by_raising (Clock since) = refl
 
     by_gone : (o : Option DescId) → gone ≡ o → (raises_at outcome.raising i || is_among (attended o) e) ≡ is_among (attended (attends o outcome.raising)) e

@@ -19,14 +19,14 @@ use Rattle.ep_calls.specs.Burial.{Burial, is_untouched}
 use Rattle.ep_calls.specs.Climb.{Rises}
 use Rattle.ep_calls.specs.Control.{Changes, ChangesIf, is_done, next_entry}
 use Rattle.ep_calls.specs.Parts.{Parts}
-use Rattle.ep_calls.specs.Raising.{Stirs, bits_of, due_bits, raised_each, raised_there}
+use Rattle.ep_calls.specs.Raising.{Stirs, bits_of, due_bits, raised_each, raised_there, raised_where}
 use Rattle.ep_calls.specs.Stands.{AreLinked, IsLinked, number_at, watch_at}
 use Rattle.ep_calls.specs.declared.control.Control.{Control}
 use Rattle.ep_calls.specs.declared.control.Named.{Named}
 use Rattle.ep_calls.specs.declared.control.Operation.{Operation}
 use Rattle.ep_calls.specs.declared.control.Operation.TheVariants.{Add, Delete, Modify}
 use Rattle.ep_calls.specs.declared.raising.Raising.{Raising}
-use Rattle.ep_calls.specs.declared.raising.Raising.TheVariants.{Clock, Instance, Nowhere, Object}
+use Rattle.ep_calls.specs.declared.raising.Raising.TheVariants.{Clock, Instance, Losses, Nowhere, Object}
 use Rattle.ep_choice.proofs.LosingLemmas.{is_home, reaches_home}
 use Rattle.ep_choice.specs.Lost.{NotesLost, deleted_home, dying_homes, guard_home, guard_homes, has_guards, may_guard, with_home}
 use Rattle.ep_climb.specs.Reach.{Reaches}
@@ -47,6 +47,7 @@ use Rattle.ep_walk.specs.Walk.{Walk}
 use Rattle.ep_table.specs.Closing.{opposite}
 use Rattle.ep_table.specs.Live.{live_ids}
 use Rattle.ep_table.specs.Value.{Seen, Sound, number_of, number_under}
+use Rattle.ep_table.specs.declared.words.Loss.{Loss}
 use Rattle.ep_view.specs.KernelView.{KernelWatch, freshened}
 
 member_there : (xs : List Entry) (x : Entry) → Contains xs x → Member x xs
@@ -177,6 +178,10 @@ placed_turns : (bits : DescId → Mask) (n : ℕ) (ids : List DescId) (xs : List
 placed_turns bits n [] xs = refl
 placed_turns bits n (id ∷ ids) xs = placed_turns bits n ids (map (raised_on id (bits id) n) xs) ∙ placed_each (raised_on id (bits id) n) (placed_raised id (bits id) n) xs
 
+placed_where : (n : ℕ) (ls : List Loss) (xs : List Entry) → map placed (raised_where n ls xs) ≡ map placed xs
+placed_where n [] xs = refl
+placed_where n (l ∷ ls) xs = placed_where n ls (map (raised_on l.desc l.raised n) xs) ∙ placed_each (raised_on l.desc l.raised n) (placed_raised l.desc l.raised n) xs
+
 -- so they do in what an event raises
 pub placed_stirred : (raising : Raising) (v : Seen) (now n : ℕ) (old new : Registrations) → Stirs raising v now n old new → map placed new.entries ≡ map placed old.entries
 placed_stirred Nowhere v now n old new h = ap (λ (r : Registrations). map placed r.entries) h
@@ -187,6 +192,7 @@ placed_stirred (Object desc raised) v now n old new h =
     ∙ (placed_each (raised_there h.other across n) (placed_there h.other across n) (map (raised_on desc here n) old.entries)
     ∙ placed_each (raised_on desc here n) (placed_raised desc here n) old.entries)
 placed_stirred (Instance desc) v now n old new h = ap (map placed) h.0 ∙ placed_each (raised_on desc (bits_of IN) n) (placed_raised desc (bits_of IN) n) old.entries
+placed_stirred Losses v now n old new h = ap (map placed) h.0 ∙ placed_where n v.losses old.entries
 placed_stirred (Clock since) v now n old new h = ap (map placed) h.0 ∙ placed_turns (due_bits v since now) n (live_ids v.keys) old.entries
 
 -- An epoll_ctl.

@@ -16,12 +16,12 @@ use Rattle.ep_calls.specs.Burial.{Burial, is_untouched}
 use Rattle.ep_calls.specs.Climb.{Rises, risen}
 use Rattle.ep_calls.specs.Ids.{KeepsIds}
 use Rattle.ep_calls.specs.Parts.{Parts}
-use Rattle.ep_calls.specs.Raising.{Stirs, bits_of, due_bits, raised_each, raised_there}
+use Rattle.ep_calls.specs.Raising.{Stirs, bits_of, due_bits, raised_each, raised_there, raised_where}
 use Rattle.ep_calls.specs.Stands.{AreLinked, IsLinked, number_at, watch_at}
 use Rattle.ep_calls.specs.declared.control.Operation.{Operation}
 use Rattle.ep_calls.specs.declared.control.Operation.TheVariants.{Add, Delete, Modify}
 use Rattle.ep_calls.specs.declared.raising.Raising.{Raising}
-use Rattle.ep_calls.specs.declared.raising.Raising.TheVariants.{Clock, Instance, Nowhere, Object}
+use Rattle.ep_calls.specs.declared.raising.Raising.TheVariants.{Clock, Instance, Losses, Nowhere, Object}
 use Rattle.ep_choice.proofs.LosingLemmas.{is_home, reaches_home}
 use Rattle.ep_choice.specs.Lost.{deleted_home, dying_homes, guard_home, guard_homes, has_guards, may_guard, with_home}
 use Rattle.ep_choice.specs.Room.{HaveRoom, Suits, Widens}
@@ -41,6 +41,7 @@ use Rattle.ep_walk.specs.Walk.{Walk}
 use Rattle.ep_table.specs.Closing.{opposite}
 use Rattle.ep_table.specs.Live.{live_ids}
 use Rattle.ep_table.specs.Value.{Seen, number_of as desc_number_of}
+use Rattle.ep_table.specs.declared.words.Loss.{Loss}
 use Rattle.ep_view.specs.KernelView.{KernelWatch, freshened, reached_now}
 
 -- a registration was there under its key, of the same two and with the same mask
@@ -112,6 +113,12 @@ were_turns bits n (id ∷ ids) old new entries keys =
     let mid = raised_once id (bits id) n old in
     were_both old mid new (were_raised id (bits id) n old) (were_turns bits n ids mid new entries keys)
 
+were_where : (n : ℕ) (ls : List Loss) (old new : Registrations) → new.entries ≡ raised_where n ls old.entries → new.keys ≡ old.keys → WereIn old new
+were_where n [] old new entries keys = were_same old new entries keys
+were_where n (l ∷ ls) old new entries keys =
+    let mid = raised_once l.desc l.raised n old in
+    were_both old mid new (were_raised l.desc l.raised n old) (were_where n ls mid new entries keys)
+
 pub were_stirred : (raising : Raising) (v : Seen) (now n : ℕ) (old new : Registrations) → Stirs raising v now n old new → WereIn old new
 were_stirred Nowhere v now n old new h = were_same old new (ap (λ (r : Registrations). r.entries) h) (ap (λ (r : Registrations). r.keys) h)
 were_stirred (Object desc raised) v now n old new h =
@@ -120,6 +127,7 @@ were_stirred (Object desc raised) v now n old new h =
     let mid = raised_once desc here n old in
     were_both old mid new (were_raised desc here n old) (were_there h.other across n mid new h.entries h.keys)
 were_stirred (Instance desc) v now n old new h = were_mapped (raised_on desc (bits_of IN) n) (keeps_raised desc (bits_of IN) n) old new h.0 h.2
+were_stirred Losses v now n old new h = were_where n v.losses old new h.0 h.2
 were_stirred (Clock since) v now n old new h = were_turns (due_bits v since now) n (live_ids v.keys) old new h.0 h.2
 
 -- and what climbs

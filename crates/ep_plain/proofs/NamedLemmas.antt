@@ -1,5 +1,5 @@
 -- What the descriptors of an event name, by the keys of registrations after its change.
-use Rattle.std.proofs.Common.{◌≡◌, ◌∙◌, ◌==◌, ◌&&◌, ◌∷◌, [], ℕ, ℤ, Bool, true, false, if◌then◌else◌, IsSome, is_none, List, MatchOption, None, Option, Some, ap, negsuc, pos, refl, slice_index_or, subst, sym, unwrap_or}
+use Rattle.std.proofs.Common.{◌≡◌, ◌∙◌, ◌==◌, ◌&&◌, ◌∷◌, [], ℕ, ℤ, Bool, true, false, if◌then◌else◌, IsSome, List, MatchOption, None, Option, Some, ap, negsuc, pos, refl, slice_index_or, subst, sym, unwrap_or}
 use Rattle.std.proofs.lemmas.Bool.{false≢true}
 use Rattle.std.specs.List.{AllByRecursion}
 use Rattle.ep_facts.proofs.NatFacts.{from_test}
@@ -20,7 +20,7 @@ use Rattle.ep_calls.specs.Moves.{Goes, Makes, Refuses}
 use Rattle.ep_calls.specs.Parts.{Parts}
 use Rattle.ep_calls.specs.Stands.{IsLinked, KeepsKeys, number_at}
 use Rattle.ep_interest.specs.declared.entry.Entry.{Entry}
-use Rattle.ep_machine.specs.Files.{Files, named_by, names_nothing, under, content_at, place_of}
+use Rattle.ep_machine.specs.Files.{Files, named_by, names_nothing, under}
 use Rattle.ep_machine.specs.Objects.{ObjectCall, asks}
 use Rattle.ep_machine.specs.Refusal.{refusals, refusals_on}
 use Rattle.ep_machine.specs.State.{Change, State, Watch}
@@ -30,14 +30,10 @@ use Rattle.ep_machine.specs.Report.{plainly}
 use Rattle.ep_machine.specs.Watches.{add, ctl, delete, is_add, is_del, modify, number_in}
 use Rattle.ep_order.specs.Ending.{is_called, is_object_of}
 use Rattle.ep_order.specs.Event.{IsAltered}
-use Rattle.ep_alarms.proofs.FilesCallLemmas.{none_waits}
 use Rattle.ep_alarms.specs.Called.{IsCalled, asked_in}
 use Rattle.ep_plain.specs.Exact.{IsNamed}
 use Rattle.ep_table.specs.Value.{Seen, Sound as SoundTables, number_under as desc_number}
 use Rattle.ep_view.proofs.AtRestLemmas.{none_holds}
-use Rattle.ep_object.specs.Quiet.{IsQuiet}
-use Rattle.ep_machine.specs.Connections.{first_waiting}
-use Rattle.ep_machine.specs.FilesCalls.{accept_of}
 
 -- a number that names something is not negative
 descriptor_of : (files : Files) (p : ℕ) (fd : ℤ) → names_nothing files p fd ≡ false → fd ≡ pos (number_in fd)
@@ -74,12 +70,6 @@ done_made limits b from caller event picked answer mid m w is = absurd is
 pub done_altered : (limits : Limits) (b from : State) (caller : ℕ) (event : Event) (picked : List ℕ) (answer : Answer) (mid : Parts) → Goes (refusals limits b caller event) (change limits b caller event picked) b answer picked mid → first (refusals limits b caller event) ≡ None → (w : Watch) → IsAltered from event w → is_done answer ≡ true
 done_altered limits b from caller event picked answer mid goes allowed =
     done_made limits b from caller event picked answer mid (subst (λ (o : Option Errno). MatchOption o (Makes (change limits b caller event picked) answer mid) (λ e. Refuses b e answer picked mid)) allowed goes)
-
--- Nothing waits to be accepted yet, so an accept is refused.
-accepts_none : (limits : Limits) (f : Files) (p : ℕ) (fd : ℤ) (cloexec : Bool) → ((k : ℕ) → IsQuiet (content_at f k)) → AllByRecursion (λ t. t.0 ≡ false) (accept_of limits f p fd cloexec).refusals → ⊥
-accepts_none limits f p fd cloexec quiet tests =
-    let none = none_waits f quiet (place_of f (named_by f p fd)) in
-    false≢true (sym tests.1.1.1.1.1.1.0 ∙ ap (λ (ks : List ℕ). is_none (first_waiting f ks)) none)
 
 -- A description that an event's change left.
 module _ (old mid : Seen) (keys : KeepsKeys old mid) (was : SoundTables old) (sound : SoundTables mid) where
@@ -144,7 +134,7 @@ module _ (old mid : Seen) (keys : KeepsKeys old mid) (was : SoundTables old) (so
     is_found (CallOf p (EpollWait epfd max timeout)) allowed called is = λ a d lives number on. absurd (false≢true on)
     is_found (CallOf p (Accept fd cloexec)) allowed called is =
         let tests = (none_holds (refusals limits b caller (CallOf p (Accept fd cloexec))) allowed).1.1 in
-        absurd (accepts_none limits b.files p.0 fd.0 cloexec (λ k. subst (λ (f : Files). IsQuiet (content_at f k)) (sym same) (was.quiet k)) tests)
+        by_call called p.0 fd.0 is tests.0
     is_found (CallOf p call) allowed called is =
         let none = (none_holds (refusals limits b caller (CallOf p call)) allowed).1.1 in
         let tests = subst (λ (f : Files). AllByRecursion (λ t. t.0 ≡ false) (refusals_on limits b p.0 call (asks f.objects call))) same none in

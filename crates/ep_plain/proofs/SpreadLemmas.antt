@@ -5,10 +5,10 @@ use Rattle.ep_base.specs.declared.ids.EntryId.{EntryId}
 use Rattle.ep_base.specs.declared.mask.Mask.{Mask}
 use Rattle.ep_calls.proofs.OtherEndLemmas.{noted}
 use Rattle.ep_calls.specs.Climb.{Rises, risen}
-use Rattle.ep_calls.specs.Raising.{Stirs, bits_of, due_bits, raised_each, raised_there}
+use Rattle.ep_calls.specs.Raising.{Stirs, bits_of, due_bits, raised_each, raised_there, raised_where}
 use Rattle.ep_calls.specs.Stands.{watch_at}
 use Rattle.ep_calls.specs.declared.raising.Raising.{Raising}
-use Rattle.ep_calls.specs.declared.raising.Raising.TheVariants.{Clock, Instance, Nowhere, Object}
+use Rattle.ep_calls.specs.declared.raising.Raising.TheVariants.{Clock, Instance, Losses, Nowhere, Object}
 use Rattle.ep_choice.specs.Room.{HaveRoom, Suits}
 use Rattle.ep_climb.specs.Reach.{AreRoomy}
 use Rattle.ep_dates.proofs.MovesLemmas.{kept_handed, kept_roomy}
@@ -27,6 +27,7 @@ use Rattle.ep_walk.specs.Walk.{Walk}
 use Rattle.ep_table.specs.Closing.{opposite}
 use Rattle.ep_table.specs.Live.{live_ids}
 use Rattle.ep_table.specs.Value.{Seen, number_of}
+use Rattle.ep_table.specs.declared.words.Loss.{Loss}
 use Rattle.ep_view.specs.KernelView.{reached_now}
 
 -- what is the same stays
@@ -73,6 +74,12 @@ stay_each bits n (id ∷ ids) old new entries keys added =
     let mid = raised_once id (bits id) n old in
     stay_both old mid new (stay_raised id (bits id) n old mid refl refl refl) (stay_each bits n ids mid new entries keys added)
 
+stay_where : (n : ℕ) (ls : List Loss) (old new : Registrations) → new.entries ≡ raised_where n ls old.entries → new.keys ≡ old.keys → new.added ≡ old.added → Stay old new
+stay_where n [] old new entries keys added = stay_same old new entries keys added
+stay_where n (l ∷ ls) old new entries keys added =
+    let mid = raised_once l.desc l.raised n old in
+    stay_both old mid new (stay_raised l.desc l.raised n old mid refl refl refl) (stay_where n ls mid new entries keys added)
+
 pub stay_stirred : (raising : Raising) (v : Seen) (now n : ℕ) (old new : Registrations) → Stirs raising v now n old new → Stay old new
 stay_stirred Nowhere v now n old new h = stay_same old new (ap (λ (r : Registrations). r.entries) h) (ap (λ (r : Registrations). r.keys) h) (ap (λ (r : Registrations). r.added) h)
 stay_stirred (Object desc raised) v now n old new h =
@@ -81,6 +88,7 @@ stay_stirred (Object desc raised) v now n old new h =
     let mid = raised_once desc here n old in
     stay_both old mid new (stay_raised desc here n old mid refl refl refl) (stay_there h.other across n mid new h.entries h.keys h.added)
 stay_stirred (Instance desc) v now n old new h = stay_raised desc (bits_of IN) n old new h.0 h.2 h.1
+stay_stirred Losses v now n old new h = stay_where n v.losses old new h.0 h.2 h.1
 stay_stirred (Clock since) v now n old new h = stay_each (due_bits v since now) n (live_ids v.keys) old new h.0 h.2 h.1
 
 -- What climbs.

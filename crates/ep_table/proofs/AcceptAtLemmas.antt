@@ -53,8 +53,7 @@ module _ {A : Type 0} (k : Inside A) (s : Things) (ps : List Process) (p : ℕ) 
   names = ap (λ (t : Things). t.names) h.left ∙ h.described.names
 
   pub fits_accepted : Fits k.living s ps
-  -- no connection waits yet
-  fits_accepted = fits_one k s ps p key cloexec inv sound.names_length there adds names (absurd (false≢true (sym (inv.quiet found.number).accepted ∙ first_waits b _ found.number finds.first))) e
+  fits_accepted = fits_one k s ps p key cloexec inv sound.names_length there adds names e
 
   content : content_of b d ≡ content_at b m
   content = content_placed b (place_of b d) (place_under k.store found.listener sound live)
@@ -97,5 +96,4 @@ succeeds_accept old new p fd found cloexec answer a h c =
       limits = c.limits;
       keys = keeps_gained old.keys new.keys c.keys.key _ c.keys.adds;
       holds = λ n. ap (λ (hs : List ℕ). count_at hs n) c.holds ∙ counts_appended old.holds n;
-      raised = refl;
     }

@@ -7,7 +7,6 @@ use Rattle.ep_machine.specs.Files.{Table, table_of}
 use Rattle.ep_machine.specs.Lists.{enter, numbered}
 use Rattle.ep_machine.specs.Objects.{Object}
 use Rattle.ep_machine.specs.Tables.{slot}
-use Rattle.ep_table.specs.Alone.{AreQuiet}
 use Rattle.ep_table.specs.Processes.{Process, entered, lists}
 use Rattle.ep_table.specs.Value.{AddsKey, InsertsTwo, Things, count_at, times}
 use Rattle.ep_table.specs.View.{IsTables, LiveAll, tables_in, value_of}
@@ -21,7 +20,6 @@ pub record Fits (processes : ℕ) (s : Things) (ps : List Process) : Type 0 wher
   pub live : LiveAll s.keys ps
   pub counts : (d : ℕ) → count_at s.names d ≡ times d (named_in_tables (tables_in s.keys ps))
   pub living : processes ≡ length (numbered 0 (tables_in s.keys ps))
-  pub quiet : AreQuiet s.objects
 
 module _ (names : List ℕ) (ts : List (Option Table)) (p n : ℕ) (cloexec : Bool) (there : IsSome (get_or ts p None)) (counts : (d : ℕ) → count_at names d ≡ times d (named_in_tables ts)) (len : length names ≡ n) where
   abbrev pub entered_in : List (Option Table)
@@ -38,9 +36,9 @@ module _ (names : List ℕ) (ts : List (Option Table)) (p n : ℕ) (cloexec : Bo
   living_entered = same_length 0 p ts (enter (unwrap_or (get_or ts p None) []) (slot n cloexec)) there
 
 pub fits_one : {A : Type 0} (k : Inside A) (s : Things) (ps : List Process) (p : ℕ) (key : DescId) (cloexec : Bool) → IsTables k → length k.store.names ≡ length k.store.descriptions → IsSome (table_of (value_of k).files p)
-    → AddsKey k.store.keys s.keys key (length k.store.descriptions) → s.names ≡ k.store.names ++ 1 ∷ [] → AreQuiet s.objects
+    → AddsKey k.store.keys s.keys key (length k.store.descriptions) → s.names ≡ k.store.names ++ 1 ∷ []
     → ps ≡ slice_set (lists k.processes.items) p (entered (get_or (lists k.processes.items) p None) (record { description = key; cloexec = cloexec })) → Fits k.living s ps
-fits_one k s ps p key cloexec inv len there adds names quiet e =
+fits_one k s ps p key cloexec inv len there adds names e =
     let n = length k.store.descriptions in
     let ts = tables_in k.store.keys (lists k.processes.items) in
     let t : tables_in s.keys ps ≡ entered_in k.store.names ts p n cloexec there inv.counts len = ap (λ (qs : List Process). tables_in s.keys qs) e ∙ tables_one k.store.keys s.keys key n adds (lists k.processes.items) inv.live p cloexec there in
@@ -48,12 +46,11 @@ fits_one k s ps p key cloexec inv len there adds names quiet e =
       live = live_creates_one k s ps p key cloexec inv.live there adds e;
       counts = λ d. ap (λ (xs : List ℕ). count_at xs d) names ∙ (counts_entered k.store.names ts p n cloexec there inv.counts len d ∙ ap (λ (xs : List (Option Table)). times d (named_in_tables xs)) (sym t));
       living = inv.living ∙ (sym (living_entered k.store.names ts p n cloexec there inv.counts len) ∙ ap (λ (xs : List (Option Table)). length (numbered 0 xs)) (sym t));
-      quiet = quiet;
     }
 
-pub fits_two : {A : Type 0} (k : Inside A) (s : Things) (ps : List Process) (p : ℕ) (first second : DescId) (o : Object) (cloexec : Bool) → IsTables k → length k.store.names ≡ length k.store.descriptions → IsSome (table_of (value_of k).files p) → InsertsTwo k.store s first second o → AreQuiet s.objects
+pub fits_two : {A : Type 0} (k : Inside A) (s : Things) (ps : List Process) (p : ℕ) (first second : DescId) (o : Object) (cloexec : Bool) → IsTables k → length k.store.names ≡ length k.store.descriptions → IsSome (table_of (value_of k).files p) → InsertsTwo k.store s first second o
     → ps ≡ slice_set (lists k.processes.items) p (entered (entered (get_or (lists k.processes.items) p None) (record { description = first; cloexec = cloexec })) (record { description = second; cloexec = cloexec })) → Fits k.living s ps
-fits_two k s ps p first second o cloexec inv len there ins quiet e =
+fits_two k s ps p first second o cloexec inv len there ins e =
     let n = length k.store.descriptions in
     let names = k.store.names in
     let ts = tables_in k.store.keys (lists k.processes.items) in
@@ -67,5 +64,4 @@ fits_two k s ps p first second o cloexec inv len there ins quiet e =
       live = live_creates_two k s ps p first second o cloexec inv.live there ins e;
       counts = λ d. ap (λ (xs : List ℕ). count_at xs d) ins.names ∙ (counts_entered (names ++ 1 ∷ []) ts1 p (n + 1) cloexec there1 counts1 len1 d ∙ ap (λ (xs : List (Option Table)). times d (named_in_tables xs)) (sym t));
       living = inv.living ∙ (sym (living_entered names ts p n cloexec there inv.counts len) ∙ (sym (living_entered (names ++ 1 ∷ []) ts1 p (n + 1) cloexec there1 counts1 len1) ∙ ap (λ (xs : List (Option Table)). length (numbered 0 xs)) (sym t)));
-      quiet = quiet;
     }

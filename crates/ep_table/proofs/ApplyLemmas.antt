@@ -11,17 +11,15 @@ use Rattle.ep_machine.specs.Effect.{Effect, attempt}
 use Rattle.ep_machine.specs.Files.{object_number, place_of}
 use Rattle.ep_machine.specs.Objects.{Object, ObjectCall, object_effect, object_refusals}
 use Rattle.ep_machine.specs.Tables.{affected}
-use Rattle.ep_table.specs.Alone.{AreQuiet}
 use Rattle.ep_table.specs.ByNumber.{NumberedBy}
 use Rattle.ep_table.specs.Stored.{AllBacked, AllOwned, IsStore, key_at as end_key, object_in, object_number_in, objects, things}
-use Rattle.ep_table.specs.Value.{Seen, Things, effect_at, files_in, number_of, objects_after, thing_number, unwrapped}
+use Rattle.ep_table.specs.Value.{Seen, Things, effect_at, files_in, number_of, thing_number, unwrapped}
 use Rattle.ep_table.specs.View.{IsTables, value_of}
 use Rattle.ep_table.specs.declared.store.Store.TheInside.{Inside}
 use Rattle.ep_table.specs.declared.tables.Tables.TheInside.{Inside as Tables}
 use Rattle.ep_table.specs.declared.words.Description.{Description}
 use Rattle.ep_table.specs.declared.words.Shared.{Shared}
 use Rattle.ep_table.proofs.ByNumberLemmas.{contents_next, next_here, next_other, numbered_next}
-use Rattle.ep_table.proofs.QuietLemmas.{quiet_affected, quiet_set}
 use Rattle.ep_table.proofs.StoreLemmas.{backs, object_found, place_is, side_is}
 
 key_same : (s : Shared) (y : Object) (e : End) → end_key (record s { object = y }) e ≡ end_key s e
@@ -133,10 +131,6 @@ module _ {A : Type 0} (k : Tables A) (v : Seen) (same : value_of k ≡ v) (key :
       subst P same (ap (λ (s : Things). value_of (record k { store = s })) h)
 
 -- a store with other contents of objects leaves what always holds of the tables
-pub still_tables : {A : Type 0} (k : Tables A) (r : Result (Answer × Raised) AllocError) (t : Things) (os : List (Option Object)) → AreQuiet os → IsTables k → OnOk r (t ≡ record k.store { objects = os }) → OnErr r (t ≡ k.store) → IsTables (record k { store = t })
-still_tables k (Ok p) t os quiet inv ok err = subst (λ (s : Things). IsTables (record k { store = s })) (sym ok) (record { live = inv.live; counts = inv.counts; living = inv.living; quiet = quiet })
-still_tables k (Err p) t os quiet inv ok err = subst (λ (s : Things). IsTables (record k { store = s })) (sym err) inv
-
--- and after a call on one of them still none waits
-pub quiet_after : (v : Things) (key : DescId) (now : ℕ) (call : ObjectCall) → AreQuiet v.objects → AreQuiet (objects_after v key now call)
-quiet_after v key now call h = quiet_set v.objects h (object_number (place_of (files_in v) (thing_number v key))) _ (quiet_affected (files_in v) (thing_number v key) now call h)
+pub still_tables : {A : Type 0} (k : Tables A) (r : Result (Answer × Raised) AllocError) (t : Things) (os : List (Option Object)) → IsTables k → OnOk r (t ≡ record k.store { objects = os }) → OnErr r (t ≡ k.store) → IsTables (record k { store = t })
+still_tables k (Ok p) t os inv ok err = subst (λ (s : Things). IsTables (record k { store = s })) (sym ok) (record { live = inv.live; counts = inv.counts; living = inv.living })
+still_tables k (Err p) t os inv ok err = subst (λ (s : Things). IsTables (record k { store = s })) (sym err) inv

@@ -13,7 +13,7 @@ use Rattle.ep_facts.proofs.NatFacts.{below_or, same_or_not, test_apart}
 use Rattle.ep_machine.specs.Connections.{pending_in}
 use Rattle.ep_machine.specs.Effect.{Effect, attempt, first, unless}
 use Rattle.ep_machine.specs.Lists.{are_distinct, is_among}
-use Rattle.ep_machine.specs.Objects.{Object, ObjectCall, close_end, is_waiting, name_in, object_effect, object_refusals, plain}
+use Rattle.ep_machine.specs.Objects.{Object, ObjectCall, close_end, is_waiting, name_in, object_effect, object_refusals}
 use Rattle.ep_names.specs.Numbers.{owner_at}
 use Rattle.ep_object.proofs.KindLemmas.{call_keeps_kind, close_keeps_kind}
 use Rattle.ep_object.proofs.NamingLemmas.{first_closes_name}

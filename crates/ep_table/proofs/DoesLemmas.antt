@@ -49,7 +49,6 @@ succeeds_one old new p x cloexec answer a c = record {
   limits = c.limits;
   keys = keeps_gained old.keys new.keys c.keys.key _ c.keys.adds;
   holds = λ d. ap (λ (hs : List ℕ). count_at hs d) c.holds ∙ counts_appended old.holds d;
-  raised = refl;
 }
 
 pub succeeds_two : (old new : Seen) (p : ℕ) (x : Object) (cloexec : Bool) (answer : Answer) → answer ≡ answer_two old.files p → CreatesTwo old new p x cloexec → Succeeds (two_of old.limits old.files p x cloexec) answer old new
@@ -59,7 +58,6 @@ succeeds_two old new p x cloexec answer a c = record {
   limits = c.limits;
   keys = λ k d h. keeps_gained c.keys.middle new.keys c.keys.second.key _ c.keys.second.adds k d (keeps_gained old.keys c.keys.middle c.keys.first.key _ c.keys.first.adds k d h);
   holds = λ d. ap (λ (hs : List ℕ). count_at hs d) c.holds ∙ (counts_appended (old.holds ++ 0 ∷ []) d ∙ counts_appended old.holds d);
-  raised = refl;
 }
 
 pub one_below : (v : Seen) (p : ℕ) → one_free (numbers_of v.files p) < second_free (numbers_of v.files p)
@@ -83,7 +81,6 @@ succeeds_dup old new p n d fd e f g =
       limits = ap (λ (w : Seen). w.limits) g;
       keys = λ key m h. ap (λ (w : Seen). number_under w key) g ∙ h;
       holds = λ m. ap (λ (w : Seen). holds_of w m) g;
-      raised = refl;
     }
 
 pub succeeds_fork : (old new : Seen) (p n : ℕ) → n ≡ length old.files.tables → new ≡ record old { files = fork old.files p; losses = [] } → Succeeds (fork_of old.limits old.files p) (Num n) old new
@@ -93,7 +90,6 @@ succeeds_fork old new p n is g = record {
   limits = ap (λ (w : Seen). w.limits) g;
   keys = λ key m h. ap (λ (w : Seen). number_under w key) g ∙ h;
   holds = λ m. ap (λ (w : Seen). holds_of w m) g;
-  raised = refl;
 }
 
 pub full_is : (m n : ℕ) → m ≤ n → first ((nat_le m n, Emfile) ∷ []) ≡ Some Emfile

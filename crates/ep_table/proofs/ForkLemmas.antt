@@ -5,7 +5,6 @@ use Rattle.ep_facts.proofs.ListFacts.{map_push}
 use Rattle.ep_machine.specs.Files.{Table}
 use Rattle.ep_machine.specs.Lists.{numbered}
 use Rattle.ep_machine.specs.Tables.{fork}
-use Rattle.ep_table.specs.Alone.{AreQuiet}
 use Rattle.ep_table.specs.Processes.{Process, items_of, lists, process_of}
 use Rattle.ep_table.specs.Value.{Seen}
 use Rattle.ep_table.specs.View.{IsTables, LiveAll, LiveProcess, table_in, tables_in, value_of}
@@ -59,7 +58,6 @@ module _ {A : Type 0} (k : Inside A) (v : Seen) (inv : IsTables k) (same : value
   fits_forked = record {
     live = subst (λ (w : Things). LiveAll w.keys (lists xs)) (sym r.same) (live_forked k xs p t inv e h);
     counts = λ d. counts_forked k.store.names old p there inv.counts s.names (λ i. omega (arith, r.names i, ap (table_times i) (numbers_are k inv p u is))) d ∙ ap (λ (ts : List (Option Table)). times d (named_in_tables ts)) (sym pushed);
-    quiet = subst (λ (w : Things). AreQuiet w.objects) (sym r.same) inv.quiet;
     living = omega (arith, inv.living, numbered_push 0 old (unwrap_or (get_or old p None) []), ap (λ (ts : List (Option Table)). length (numbered 0 ts)) pushed);
   }
 

@@ -17,9 +17,7 @@ use Rattle.ep_machine.specs.Files.{Files, Place, Table, content_at, is_live, nam
 use Rattle.ep_machine.specs.Lists.{is_among, numbered}
 use Rattle.ep_machine.specs.Objects.{Object, instance, is_instance, plain}
 use Rattle.ep_machine.specs.Spread.{raised_of}
-use Rattle.ep_table.proofs.LetGoLemmas.{all_go, all_told, any_order, any_order_told, holding, step, steps, told}
-use Rattle.ep_table.proofs.QuietLemmas.{none_let_go, steps_rest}
-use Rattle.ep_table.specs.Alone.{AreQuiet}
+use Rattle.ep_table.proofs.LetGoLemmas.{all_go, all_told, any_order, any_order_told, content_left, holding, step, steps, told, told_at, untold}
 use Rattle.ep_table.specs.LettingGo.{LetsGo, pending_of}
 use Rattle.ep_table.specs.Value.{AreLive, AreTold, Does, Leaves, Seen, Sound, SoundThings, Things, content_of, files_in, holds_of, is_dying, losses_of, number_under, unwrapped}
 use Rattle.ep_table.specs.View.{IsTables, value_of}
@@ -161,11 +159,8 @@ module _ {A : Type 0} (k : Inside A) (v : Seen) (inv : IsTables k) (same : value
   abbrev after : Inside A
   after = record k { store = t }
 
-  quiet_left : AreQuiet (let_all_go (s, []) ks).0.objects
-  quiet_left = subst (λ (os : List (Option Object)). AreQuiet os) (sym (ap (λ (now : Files × List (ℕ × ℕ)). now.0.objects) (all_go s s.objects [] ks) ∙ steps_rest s.objects inv.quiet s ks)) inv.quiet
-
   pub still_leaving : IsTables after
-  still_leaving = subst (λ (u : Things). IsTables (record k { store = u })) (sym goes.rest) (record { live = inv.live; counts = inv.counts; living = inv.living; quiet = quiet_left })
+  still_leaving = subst (λ (u : Things). IsTables (record k { store = u })) (sym goes.rest) (record { live = inv.live; counts = inv.counts; living = inv.living })
 
   sound_here : Sound (value_of k)
   sound_here = subst (λ (w : Seen). Sound w) (sym same) sound
@@ -213,6 +208,16 @@ module _ {A : Type 0} (k : Inside A) (v : Seen) (inv : IsTables k) (same : value
   keys_left : (value_of after).keys ≡ k.store.keys
   keys_left = ap (λ (u : Things). u.keys) goes.rest
 
+  -- nothing is told of an instance
+  untold_left : (d : ℕ) → is_instance (content_of (value_of after).files d) ≡ true → raised_of (losses_of (value_of after).keys t.losses) d ≡ 0
+  untold_left d is =
+      let none = untold f f.objects (abandoned f) (place_of f d)
+      (ap (λ (x : Object). is_instance x) (sym (content_left f (steps f f.objects (abandoned f)) d)) ∙ (ap (λ (g : Files). is_instance (content_of g d)) (sym (files_left ∙ ap (λ (now : Files × List (ℕ × ℕ)). now.0) machine)) ∙ is)) in
+      ap (λ (keys : List (Option ℕ)). raised_of (losses_of keys t.losses) d) keys_left
+      ∙ (sym (bits_left d)
+      ∙ (ap (λ (now : Files × List (ℕ × ℕ)). raised_of now.1 d) machine
+      ∙ (told_at f f.objects (abandoned f) d ∙ none)))
+
   here : Leaves (value_of k) (value_of after) f
   here = record {
     files = files_left;
@@ -220,8 +225,8 @@ module _ {A : Type 0} (k : Inside A) (v : Seen) (inv : IsTables k) (same : value
     told = record {
       bits = λ d. bits_left d ∙ ap (λ (keys : List (Option ℕ)). raised_of (losses_of keys t.losses) d) (sym keys_left);
       live = subst (λ (keys : List (Option ℕ)). AreLive keys t.losses) (sym keys_left) (goes.live tt);
+      instances = untold_left;
     };
-    silent = ap (λ (now : Files × List (ℕ × ℕ)). now.1) (none_let_go f inv.quiet);
   }
 
   pub leaves_here : Leaves v (value_of after) v.files
@@ -235,7 +240,6 @@ leaves_after old mid new after is h =
       files = h.files ∙ ap (λ (g : Files). (without_abandoned g).0) files;
       rest = h.rest ∙ (λ i. record (is i) { files = new.files; dying = new.dying; losses = new.losses });
       told = subst (λ (g : Files). AreTold (without_abandoned g).1 new) files h.told;
-      silent = ap (λ (g : Files). (without_abandoned g).1) (sym files) ∙ h.silent;
     }
 
 -- a call that does so
@@ -247,7 +251,6 @@ does_leaving refusals made answer after old new none is h =
       limits = ap (λ (w : Seen). w.limits) h.rest;
       keys = λ key d at. ap (λ (w : Seen). number_under w key) h.rest ∙ at;
       holds = λ d. ap (λ (w : Seen). holds_of w d) h.rest;
-      raised = h.silent;
     })
 
 -- where the descriptor names something

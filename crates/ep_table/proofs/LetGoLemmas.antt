@@ -1,35 +1,35 @@
 -- What waits is let go, in whatever order: of each connection it matters only whether it is among those.
-use Rattle.std.proofs.Common.{Bool, List, None, Option, Some, [], ap, append-nil, append_assoc, arith, bit_or, false, get_or, inl, inr, length, refl, slice_set, subst, suc, sym, true, unwrap_or, zero, ℕ, ◌&&◌, ◌++◌, ◌<◌, ◌==◌, ◌∙◌, ◌∷◌, ◌≡◌, ◌≢◌, ◌||◌, if◌then◌else◌}
+use Rattle.std.proofs.Common.{Bool, List, None, Option, Some, [], ap, append-nil, append_assoc, bit_or, false, get_or, inl, inr, length, refl, slice_set, subst, sym, true, unwrap_or, ℕ, ◌&&◌, ◌++◌, ◌<◌, ◌==◌, ◌∙◌, ◌∷◌, ◌≡◌, ◌≢◌, ◌||◌, if◌then◌else◌}
 use Rattle.std.specs.List.{list_any}
 use Rattle.std.specs.Int.Bits.{or_zero_r}
 use Rattle.std.proofs.lemmas.Bool.{false≢true}
-use Rattle.std.proofs.lemmas.List.{get_or-set_other, get_or-set_same, get_or_past}
+use Rattle.std.proofs.Math.Bool.{and-false}
+use Rattle.std.proofs.lemmas.List.{ext_get_or, get_or-set_other, get_or-set_same, get_or_past, length-set}
 use Rattle.ep_base.specs.declared.object.End.TheVariants.{Second}
 use Rattle.ep_facts.proofs.NatFacts.{below_or, same_or_not, same_nat, same_test, test_apart}
 use Rattle.ep_facts.proofs.RaisedFacts.{raised_live, raised_parts, raised_place}
 use Rattle.ep_machine.specs.Bits.{at_end, when}
 use Rattle.ep_machine.specs.Connections.{let_all_go, let_go, pending_in}
 use Rattle.ep_machine.specs.Deaths.{kept_object}
-use Rattle.ep_machine.specs.Files.{Files, Place, live, place_of, raised_at}
+use Rattle.ep_machine.specs.Files.{Files, Place, live, object_at, place_of, raised_at}
 use Rattle.ep_machine.specs.Lists.{is_among}
-use Rattle.ep_machine.specs.Objects.{Object, close_end, is_waiting, listener, plain}
+use Rattle.ep_machine.specs.Objects.{Object, close_end, instance, is_instance, is_waiting, listener, plain}
 use Rattle.ep_machine.specs.Spread.{raised_of}
+use Rattle.ep_object.proofs.KindLemmas.{close_keeps_instance}
 use Rattle.ep_object.proofs.PendingLemmas.{close_keeps_pending, second_closes_waiting}
+use Rattle.ep_table.specs.Value.{content_of, unwrapped}
 
 abbrev pub at : List (Option Object) → ℕ → Object
 at os k = unwrap_or (get_or os k None) plain
 
--- two lists with the same at each place
-pub same_lists : {X : Type 0} (xs ys : List (Option X)) → length xs ≡ length ys → ((i : ℕ) → get_or xs i None ≡ get_or ys i None) → xs ≡ ys
-same_lists [] [] l h = refl
-same_lists [] (y ∷ ys) l h = absurd (omega (arith, l))
-same_lists (x ∷ xs) [] l h = absurd (omega (arith, l))
-same_lists (x ∷ xs) (y ∷ ys) l h = let first = h zero in let rest = same_lists xs ys (omega (arith, l)) (λ i. h (suc i)) in λ i. first i ∷ rest i
+waiting_instance : (x : Object) → is_waiting x ≡ true → is_instance x ≡ false
+waiting_instance instance h = absurd (false≢true h)
+waiting_instance plain h = refl
+waiting_instance x h = refl
 
-length_set : {X : Type 0} (xs : List X) (i : ℕ) (x : X) → length (slice_set xs i x) ≡ length xs
-length_set [] i x = refl
-length_set (y ∷ xs) zero x = refl
-length_set (y ∷ xs) (suc i) x = ap suc (length_set xs i x)
+and_right : (a b : Bool) → (a && b) ≡ true → b ≡ true
+and_right true b h = h
+and_right false b h = absurd (false≢true h)
 
 waits_there : (o : Option Object) → is_waiting (unwrap_or o plain) ≡ true → (x : Object) × (o ≡ Some x)
 waits_there None h = absurd (false≢true h)
@@ -85,7 +85,7 @@ module _ (s : Files) where
   steps_length os [] = refl
   steps_length os (k ∷ ks) = steps_length (step os k) ks ∙ of_step (is_waiting (at os k)) where
     of_step : (b : Bool) → length (if b then slice_set os k (gone os k) else os) ≡ length os
-    of_step true = length_set os k (gone os k)
+    of_step true = length-set os k (gone os k)
     of_step false = refl
 
   -- A connection at its own number, and at another.
@@ -121,24 +121,20 @@ module _ (s : Files) where
   abbrev pub is_lost : List (Option Object) → List ℕ → ℕ → Bool
   is_lost os ks j = is_among ks j && is_waiting (at os j)
 
-  none_and : (b : Bool) → (b && false) ≡ false
-  none_and true = refl
-  none_and false = refl
-
   abbrev Left : List (Option Object) → List ℕ → ℕ → Type 0
   Left os ks j = get_or (steps os ks) j None ≡ (if is_lost os ks j then gone os j else get_or os j None)
 
   left_next : (os : List (Option Object)) (k : ℕ) (ks : List ℕ) → ((i : ℕ) → Left (step os k) ks i) → (j : ℕ) → Left os (k ∷ ks) j
   left_next os k ks later j = elim (same_or_not j k) [ inl e ↦ own e | inr ne ↦ other ne ] where
     now : (m : ℕ) → is_waiting (at (step os k) m) ≡ false → get_or (steps (step os k) ks) m None ≡ get_or (step os k) m None
-    now m h = later m ∙ ap (λ (b : Bool). if b then gone (step os k) m else get_or (step os k) m None) ((λ i. is_among ks m && h i) ∙ none_and (is_among ks m))
+    now m h = later m ∙ ap (λ (b : Bool). if b then gone (step os k) m else get_or (step os k) m None) ((λ i. is_among ks m && h i) ∙ and-false (is_among ks m))
 
     at_k : (b : Bool) → is_waiting (at os k) ≡ b → Left os (k ∷ ks) k
     at_k true h = now k (waits_no_more os k) ∙ (goes os k h ∙ sym ((λ i. if (same_nat k i || is_among ks k) && h i then gone os k else get_or os k None)))
     at_k false h =
         now k (waits_no_more os k)
         ∙ (ap (λ (ps : List (Option Object)). get_or ps k None) (rests os k h)
-        ∙ sym (ap (λ (b : Bool). if b then gone os k else get_or os k None) ((λ i. is_among (k ∷ ks) k && h i) ∙ none_and (is_among (k ∷ ks) k))))
+        ∙ sym (ap (λ (b : Bool). if b then gone os k else get_or os k None) ((λ i. is_among (k ∷ ks) k && h i) ∙ and-false (is_among (k ∷ ks) k))))
 
     own : j ≡ k → Left os (k ∷ ks) j
     own e = subst (Left os (k ∷ ks)) (sym e) (at_k (is_waiting (at os k)) refl)
@@ -157,8 +153,8 @@ module _ (s : Files) where
   -- so their order makes no difference
   pub any_order : (os : List (Option Object)) (ks ls : List ℕ) → ((j : ℕ) → is_among ks j ≡ is_among ls j) → steps os ks ≡ steps os ls
   any_order os ks ls same =
-      same_lists (steps os ks) (steps os ls) (steps_length os ks ∙ sym (steps_length os ls))
-      (λ j. left_at os ks j ∙ (ap (λ (b : Bool). if b && is_waiting (at os j) then gone os j else get_or os j None) (same j) ∙ sym (left_at os ls j)))
+      ext_get_or None (steps os ks) (steps os ls) (steps_length os ks ∙ sym (steps_length os ls))
+      (λ j lt. left_at os ks j ∙ (ap (λ (b : Bool). if b && is_waiting (at os j) then gone os j else get_or os j None) (same j) ∙ sym (left_at os ls j)))
 
   -- What waits at an object stays the same.
   pub pending_left : (os : List (Option Object)) (ks : List ℕ) (j : ℕ) → pending_in (at (steps os ks) j) ≡ pending_in (at os j)
@@ -191,7 +187,7 @@ module _ (s : Files) where
   told_next os k ks d = by_test (is_waiting (at os k)) refl where
     -- nothing more is told where none waits
     none_told : (p : Place) → is_waiting (at (step os k) p.object) ≡ false → loss_at (step os k) ks (Some p) ≡ 0
-    none_told p h = ap (λ (b : Bool). when b (at_end (close_end (at (step os k) p.object) Second).1 p.side)) ((λ i. is_among ks p.object && h i) ∙ none_and (is_among ks p.object))
+    none_told p h = ap (λ (b : Bool). when b (at_end (close_end (at (step os k) p.object) Second).1 p.side)) ((λ i. is_among ks p.object && h i) ∙ and-false (is_among ks p.object))
 
     elsewhere : (p : Place) → p.object ≢ k → loss_at (step os k) ks (Some p) ≡ loss_at os (k ∷ ks) (Some p)
     elsewhere p ne =
@@ -221,7 +217,7 @@ module _ (s : Files) where
         | inl e ↦
             let w : is_waiting (at os p.object) ≡ false = ap (λ (j : ℕ). is_waiting (at os j)) e ∙ h in
             none_told p (ap (λ (ps : List (Option Object)). is_waiting (at ps p.object)) (rests os k h) ∙ w)
-            ∙ sym (ap (λ (b : Bool). when b (at_end (close_end (at os p.object) Second).1 p.side)) ((λ i. is_among (k ∷ ks) p.object && w i) ∙ none_and (is_among (k ∷ ks) p.object)))
+            ∙ sym (ap (λ (b : Bool). when b (at_end (close_end (at os p.object) Second).1 p.side)) ((λ i. is_among (k ∷ ks) p.object && w i) ∙ and-false (is_among (k ∷ ks) p.object)))
         | inr ne ↦ elsewhere p ne
       ]
 
@@ -237,3 +233,28 @@ module _ (s : Files) where
     by_place : (o : Option Place) → loss_at os ks o ≡ loss_at os ls o
     by_place None = refl
     by_place (Some p) = ap (λ (b : Bool). when (b && is_waiting (at os p.object)) (at_end (close_end (at os p.object) Second).1 p.side)) (same p.object)
+
+  -- Nothing is told of what is an instance afterwards.
+  abbrev pub placed_at : List (Option Object) → Option Place → Object
+  placed_at os None = plain
+  placed_at os (Some p) = at os p.object
+
+  pub content_left : (os : List (Option Object)) (d : ℕ) → content_of (holding os) d ≡ placed_at os (place_of s d)
+  content_left os d = by_place (place_of s d) where
+    by_place : (o : Option Place) → unwrapped (object_at (holding os) o) ≡ placed_at os o
+    by_place None = refl
+    by_place (Some p) = refl
+
+  gone_instance : (b : Bool) (x : Object) → is_waiting x ≡ true → is_instance (unwrap_or (if b then Some (close_end x Second).0 else None) plain) ≡ false
+  gone_instance true x h = close_keeps_instance x Second ∙ waiting_instance x h
+  gone_instance false x h = refl
+
+  pub untold : (os : List (Option Object)) (ks : List ℕ) (o : Option Place) → is_instance (placed_at (steps os ks) o) ≡ true → loss_at os ks o ≡ 0
+  untold os ks None h = refl
+  untold os ks (Some p) h = by_lost (is_lost os ks p.object) refl where
+    by_lost : (b : Bool) → is_lost os ks p.object ≡ b → loss_at os ks (Some p) ≡ 0
+    by_lost false free = ap (λ (b : Bool). when b (at_end (close_end (at os p.object) Second).1 p.side)) free
+    by_lost true lost =
+        let left = left_at os ks p.object ∙ ap (λ (b : Bool). if b then gone os p.object else get_or os p.object None) lost in
+        let none = gone_instance (list_any (λ y. y.1.object == p.object) (live s) || is_waiting (close_end (at os p.object) Second).0) (at os p.object) (and_right (is_among ks p.object) (is_waiting (at os p.object)) lost) in
+        absurd (false≢true (sym none ∙ (ap (λ (x : Option Object). is_instance (unwrap_or x plain)) (sym left) ∙ h)))

@@ -3,6 +3,7 @@ use Rattle.std.proofs.Common.{Bool, IsSome, List, None, Option, Some, [], ap, ar
 use Rattle.std.specs.Int.Bits.{or_zero_r}
 use Rattle.std.specs.Prelude.{IfNone, IfSome}
 use Rattle.std.specs.List.{list_any}
+use Rattle.std.proofs.Math.Bool.{and-false}
 use Rattle.std.proofs.lemmas.Bool.{cases_Bool, false≢true}
 use Rattle.std.proofs.lemmas.List.{get_or_past}
 use Rattle.std.proofs.lemmas.Option.{none-some}
@@ -87,12 +88,9 @@ module _ (s : Files) (n : ℕ) (rests : is_waiting (at s.objects n) ≡ false) w
         by_place (Some p) = ap (λ (b : Bool). when b (at_end (close_end (at s.objects p.object) Second).1 p.side)) (of_lost p) where
           of_lost : (p : Place) → is_lost s s.objects (n ∷ []) p.object ≡ false
           of_lost p = elim (same_or_not p.object n) [
-            | inl e ↦ (λ i. ((p.object == n) || false) && (ap (λ (j : ℕ). is_waiting (at s.objects j)) e ∙ rests) i) ∙ none_and ((p.object == n) || false)
+            | inl e ↦ (λ i. ((p.object == n) || false) && (ap (λ (j : ℕ). is_waiting (at s.objects j)) e ∙ rests) i) ∙ and-false ((p.object == n) || false)
             | inr ne ↦ ap (λ (b : Bool). (b || false) && is_waiting (at s.objects p.object)) (test_apart p.object n ne)
-          ] where
-            none_and : (b : Bool) → (b && false) ≡ false
-            none_and true = refl
-            none_and false = refl
+          ]
 
 pub lets_none_go : (v : Things) (n : ℕ) → is_waiting (at v.objects n) ≡ false → LetsGo v v (n ∷ [])
 lets_none_go v n rests = record {

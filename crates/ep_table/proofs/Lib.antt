@@ -24,7 +24,6 @@ pub mod LettingLemmas
 pub mod LettingGoLemmas
 pub mod DescribeLemmas
 pub mod AcceptingLemmas
-pub mod QuietLemmas
 pub mod LeavesLemmas
 pub mod AcceptLemmas
 pub mod AcceptAtLemmas

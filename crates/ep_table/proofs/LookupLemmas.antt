@@ -106,7 +106,6 @@ sound_inside k inv s = record {
   held = s.held;
   holds_length = s.holds_length;
   distinct = s.queue.distinct;
-  quiet = inv.quiet;
   dying = λ d.
       let names = named_in_tables (value_of k).files.tables in
       let e : not (is_among names d) ≡ (count_at k.store.names d == 0) = not_among (is_among names d) (times d names) (among_times d names) ∙ ap (λ (n : ℕ). n == 0) (sym (inv.counts d)) in

@@ -7,9 +7,6 @@ use Rattle.ep_machine.specs.Files.{Slot, Table}
 use Rattle.ep_machine.specs.Lists.{numbered}
 use Rattle.ep_machine.specs.Objects.{Object}
 use Rattle.ep_machine.specs.Tables.{slot}
-use Rattle.ep_object.specs.Quiet.{IsQuiet}
-use Rattle.ep_table.proofs.QuietLemmas.{quiet_plain, quiet_push}
-use Rattle.ep_table.specs.Alone.{AreQuiet}
 use Rattle.ep_table.specs.Processes.{Process}
 use Rattle.ep_table.specs.Value.{InsertsOne, Things, count_at, more_at, number_at, thing_number, times}
 use Rattle.ep_table.specs.View.{slot_in, tables_in}
@@ -36,13 +33,12 @@ module _ (s : Things) (key : DescId) (number : number_at s.keys key ≡ Some 0) 
   tables_seen : tables_in s.keys (three_names key) ≡ None ∷ Some (seen_slot ∷ seen_slot ∷ seen_slot ∷ []) ∷ []
   tables_seen = λ i. None ∷ Some (slot_seen i ∷ slot_seen i ∷ slot_seen i ∷ []) ∷ []
 
-  fits_three : s.names ≡ 3 ∷ [] → AreQuiet s.objects → Fits 1 s (three_names key)
-  fits_three names quiet =
+  fits_three : s.names ≡ 3 ∷ [] → Fits 1 s (three_names key)
+  fits_three names =
       let live : IsSome (number_at s.keys key) = subst (λ (o : Option ℕ). IsSome o) (sym number) refl in
       record {
         live = (tt, ((live, (live, (live, tt))), tt));
         counts = λ d. ap (λ (xs : List ℕ). count_at xs d) names ∙ (three d ∙ sym (ap (λ (ts : List (Option Table)). times d (named_in_tables ts)) tables_seen));
-        quiet = quiet;
         living = sym (ap (λ (ts : List (Option Table)). length (numbered 0 ts)) tables_seen);
       }
 
@@ -52,8 +48,8 @@ pub fits_opening : (none one two all : Things) (key : DescId) (o : Object) (ps :
     → InsertsOne none one key o
     → two ≡ record one { names = more_at one.names (thing_number one key); named = one.named + 1 }
     → all ≡ record two { names = more_at two.names (thing_number two key); named = two.named + 1 }
-    → ps ≡ three_names key → IsQuiet o → Fits 1 all ps
-fits_opening none one two all key o ps is_none adds second third e quiet =
+    → ps ≡ three_names key → Fits 1 all ps
+fits_opening none one two all key o ps is_none adds second third e =
     let found : number_at one.keys key ≡ Some 0 = adds.keys.here ∙ ap (λ (s : Things). Some (length s.descriptions)) is_none in
     let keys_two : two.keys ≡ one.keys = ap (λ (s : Things). s.keys) second in
     let keys_all : all.keys ≡ one.keys = ap (λ (s : Things). s.keys) third ∙ keys_two in
@@ -63,7 +59,4 @@ fits_opening none one two all key o ps is_none adds second third e quiet =
     let names_two : two.names ≡ 2 ∷ [] = ap (λ (s : Things). s.names) second ∙ (λ i. more_at (names_one i) (first i)) in
     let names_all : all.names ≡ 3 ∷ [] = ap (λ (s : Things). s.names) third ∙ (λ i. more_at (names_two i) (again i)) in
     let number : number_at all.keys key ≡ Some 0 = ap (λ (ks : List (Option ℕ)). number_at ks key) keys_all ∙ found in
-    let objects : all.objects ≡ none.objects ++ Some o ∷ [] = ap (λ (s : Things). s.objects) third ∙ (ap (λ (s : Things). s.objects) second ∙ adds.objects) in
-    let none_quiet : AreQuiet none.objects = subst (λ (s : Things). AreQuiet s.objects) (sym is_none) (λ k. quiet_plain) in
-    let all_quiet = subst (λ (os : List (Option Object)). AreQuiet os) (sym objects) (quiet_push none.objects none_quiet o quiet) in
-    subst (λ (qs : List Process). Fits 1 all qs) (sym e) (fits_three all key number names_all all_quiet)
+    subst (λ (qs : List Process). Fits 1 all qs) (sym e) (fits_three all key number names_all)

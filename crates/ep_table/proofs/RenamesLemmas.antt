@@ -1,11 +1,10 @@
 -- What calls on one table leave.
-use Rattle.std.proofs.Common.{IsSome, List, None, Option, Some, [], ap, arith, false, get_or, map, slice_set, subst, sym, unwrap_or, ℕ, ◌+◌, ◌<◌, ◌∙◌, ◌≡◌}
+use Rattle.std.proofs.Common.{IsSome, List, None, Option, Some, [], ap, arith, false, get_or, map, slice_set, sym, unwrap_or, ℕ, ◌+◌, ◌<◌, ◌∙◌, ◌≡◌}
 use Rattle.ep_machine.specs.Files.{Table, description_in, numbers_of, table_of}
 use Rattle.ep_machine.specs.Lists.{enter, place_at}
 use Rattle.ep_machine.specs.Tables.{kept_by_exec, slot, with_table}
 use Rattle.ep_table.specs.Counting.{Lowers, numbers}
 use Rattle.ep_table.specs.Flagged.{closing}
-use Rattle.ep_table.specs.Alone.{AreQuiet}
 use Rattle.ep_table.specs.Processes.{Process, entered, kept_in, left, lists, process_of, put_at, slots_of}
 use Rattle.ep_table.specs.Value.{Seen, Things, count_at, less_at, more_at, number_at, thing_number}
 use Rattle.ep_table.specs.View.{IsTables, LiveProcess, slot_in, table_in, value_of}
@@ -38,7 +37,6 @@ module _ {A : Type 0} (k : Inside A) (v : Seen) (inv : IsTables k) (same : value
       live = new_live k v inv same p is f g step keeps ps written s rest;
       counts = new_counts k v inv same p is f g step keeps ps written s rest counts;
       living = new_living k v inv same p is f g step keeps ps written s rest;
-      quiet = subst (λ (w : Things). AreQuiet w.objects) (sym rest) inv.quiet;
     };
     value = new_value k v inv same p is f g step keeps ps written s rest;
   }

@@ -12,9 +12,6 @@ use Rattle.ep_machine.specs.Lists.{is_among, numbered}
 use Rattle.ep_machine.specs.Tables.{slot}
 use Rattle.ep_table.specs.Closing.{Dies, Takes}
 use Rattle.ep_table.specs.Counting.{Lowers, numbers}
-use Rattle.ep_table.specs.Value.{files_in}
-use Rattle.ep_table.proofs.QuietLemmas.{quiet_die}
-use Rattle.ep_table.specs.Alone.{AreQuiet}
 use Rattle.ep_table.specs.Processes.{Process, lists}
 use Rattle.ep_table.specs.Value.{Queue, Seen, SoundThings, Things, count_at, number_at, times}
 use Rattle.ep_table.specs.View.{IsTables, LiveAll, LiveProcess, LiveTable, slot_in, table_in, tables_in, value_of}
@@ -111,7 +108,6 @@ module _ {A : Type 0} (k : Inside A) (inv : IsTables k) (p : ℕ) (t : List (Opt
     fits_ended = record {
       live = subst (λ (w : Things). LiveAll w.keys ps) (sym l.same) (subst (λ (qs : List Process). LiveAll keys qs) (sym written) (live_none (lists k.processes.items) p inv.live));
       counts = λ d. counts_ended k.store.names tables p table_there inv.counts s.names (λ e. omega (arith, l.names e, ap (table_times e) numbers_are)) d ∙ ap (λ (xs : List (Option Table)). times d (named_in_tables xs)) (sym tables_ended);
-      quiet = subst (λ (w : Things). AreQuiet w.objects) (sym l.same) inv.quiet;
       living = omega (arith, lives_before, ap (λ (xs : List (Option Table)). length (numbered 0 xs)) tables_ended);
     }
 
@@ -177,13 +173,12 @@ module _ {A : Type 0} (k : Inside A) (v : Seen) (inv : IsTables k) (same : value
 
   pub fits_taken : (o : Option Dead) → IfNone o ((s ≡ k.store) × (k.store.dying ≡ [])) → IfSome o (λ dead. Dies k.store s dead) → Fits k.living s qs
   fits_taken None n d =
-      let f : Fits k.living k.store qs = record { live = inv.live; counts = inv.counts; living = inv.living; quiet = inv.quiet } in
+      let f : Fits k.living k.store qs = record { live = inv.live; counts = inv.counts; living = inv.living } in
       subst (λ (w : Things). Fits k.living w qs) (sym n.0) f
   fits_taken (Some dead) n d = record {
     live = subst (λ (keys : List (Option ℕ)). LiveAll keys qs) (sym d.keys) (free_live k.store.keys dead.desc d.number d.key_is qs (unnamed dead d) inv.live);
     counts = λ e. ap (λ (xs : List ℕ). count_at xs e) d.names ∙ (inv.counts e ∙ ap (λ (xs : List (Option Table)). times e (named_in_tables xs)) (sym (tables_same dead d)));
     living = inv.living ∙ ap (λ (xs : List (Option Table)). length (numbered 0 xs)) (sym (tables_same dead d));
-    quiet = subst (λ (f : Files). AreQuiet f.objects) (sym d.files) (quiet_die (files_in k.store) (d.number, d.place) inv.quiet);
   }
 
   takes : (dead : Dead) → Dies k.store s dead → Takes (value_of k) (with_store k qs s) dead

@@ -1,6 +1,5 @@
 pub mod Low
 pub mod ByNumber
-pub mod Alone
 pub mod Value
 pub mod Taking
 pub mod Connected

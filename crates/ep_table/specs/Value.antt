@@ -11,14 +11,13 @@ use Rattle.ep_base.specs.declared.ids.DescId.{DescId}
 use Rattle.ep_machine.specs.Effect.{Effect, attempt, first}
 use Rattle.ep_machine.specs.Connections.{without_abandoned}
 use Rattle.ep_machine.specs.Deaths.{named_in_tables}
-use Rattle.ep_machine.specs.Files.{Files, Place, content_at, is_live, numbers_of, object_of, place_of, side_of, under}
+use Rattle.ep_machine.specs.Files.{Files, Place, is_live, numbers_of, object_of, place_of, side_of, under}
 use Rattle.ep_machine.specs.FilesCalls.{FilesCall}
 use Rattle.ep_machine.specs.Lists.{are_distinct, is_among, place_at}
 use Rattle.ep_machine.specs.Objects.{Object, ObjectCall, is_instance, object_effect, object_refusals, plain}
 use Rattle.ep_machine.specs.Spread.{raised_of}
 use Rattle.ep_machine.specs.Tables.{affected, create_one, create_two, slot, with_table}
 use Rattle.ep_object.specs.Memory.{object_waiting}
-use Rattle.ep_object.specs.Quiet.{IsQuiet}
 use Rattle.ep_table.specs.declared.words.Loss.{Loss}
 
 pub record Seen : Type 0 where
@@ -102,10 +101,18 @@ KeepsKeys old new = (key : DescId) (d : ℕ) → number_under old key ≡ Some d
 abbrev pub KeepsHolds : Seen → Seen → Type 0
 KeepsHolds old new = (d : ℕ) → holds_of new d ≡ holds_of old d
 
--- what is raised is what stands as lost, at each description, and each of those is live
+abbrev pub unwrapped : Option Object → Object
+unwrapped x = unwrap_or x plain
+
+-- the object of a description that is live
+abbrev pub content_of : Files → ℕ → Object
+content_of s d = unwrapped (object_of s d)
+
+-- what is raised is what stands as lost, at each description; each of those is live, and no instance
 pub record AreTold (raised : List (ℕ × ℕ)) (v : Seen) : Type 0 where
   pub bits : (d : ℕ) → raised_of raised d ≡ raised_of (losses_of v.keys v.losses) d
   pub live : AreLive v.keys v.losses
+  pub instances : (d : ℕ) → is_instance (content_of v.files d) ≡ true → raised_of (losses_of v.keys v.losses) d ≡ 0
 
 -- a call on the tables that isn't refused
 pub record Succeeds (call : FilesCall) (answer : Answer) (old new : Seen) : Type 0 where
@@ -114,8 +121,6 @@ pub record Succeeds (call : FilesCall) (answer : Answer) (old new : Seen) : Type
   pub limits : new.limits ≡ old.limits
   pub keys : KeepsKeys old new
   pub holds : KeepsHolds old new
-  -- no connection waits yet, so none is let go
-  pub raised : call.raised ≡ []
 
 pub record Refuses (e : Errno) (answer : Answer) (old new : Seen) : Type 0 where
   pub answers : answer ≡ Refused e
@@ -135,7 +140,6 @@ pub record Leaves (old new : Seen) (after : Files) : Type 0 where
   pub files : new.files ≡ (without_abandoned after).0
   pub rest : new ≡ record old { files = new.files; dying = new.dying; losses = new.losses }
   pub told : AreTold (without_abandoned after).1 new
-  pub silent : (without_abandoned after).1 ≡ []
 
 -- an object with one description more
 pub record CreatesOne (old new : Seen) (p : ℕ) (x : Object) (cloexec : Bool) : Type 0 where
@@ -154,13 +158,6 @@ pub record CreatesTwo (old new : Seen) (p : ℕ) (x : Object) (cloexec : Bool) :
   pub holds : new.holds ≡ (old.holds ++ 0 ∷ []) ++ 0 ∷ []
   pub dying : new.dying ≡ old.dying
   pub losses : new.losses ≡ []
-
-abbrev pub unwrapped : Option Object → Object
-unwrapped x = unwrap_or x plain
-
--- the object of a description that is live
-abbrev pub content_of : Files → ℕ → Object
-content_of s d = unwrapped (object_of s d)
 
 -- what a call on the object of a description gives, at the description's end
 abbrev pub effect_at : Files → ℕ → ℕ → ObjectCall → Effect Object
@@ -205,8 +202,6 @@ pub record Sound (v : Seen) : Type 0 where
   pub holds_length : length v.holds ≡ length v.files.descriptions
   pub distinct : are_distinct v.dying ≡ true
   pub dying : (d : ℕ) → is_among v.dying d ≡ is_dying v d
-  -- no connection waits yet
-  pub quiet : (k : ℕ) → IsQuiet (content_at v.files k)
 
 -- descriptions and objects, without tables
 pub record Things : Type 0 where

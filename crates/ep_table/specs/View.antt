@@ -4,7 +4,6 @@ use Rattle.ep_machine.specs.Deaths.{named_in_tables}
 use Rattle.ep_machine.specs.Files.{Slot, Table}
 use Rattle.ep_machine.specs.Lists.{numbered}
 use Rattle.ep_machine.specs.Tables.{slot}
-use Rattle.ep_table.specs.Alone.{AreQuiet}
 use Rattle.ep_table.specs.Processes.{Process, lists}
 use Rattle.ep_table.specs.Value.{Seen, count_at, number_at, times}
 use Rattle.ep_table.specs.declared.tables.Tables.TheInside.{Inside}
@@ -56,4 +55,3 @@ pub record IsTables {A : Type 0} (k : Inside A) : Type 0 where
   pub live : LiveAll k.store.keys (lists k.processes.items)
   pub counts : (d : ℕ) → count_at k.store.names d ≡ times d (named_in_tables (value_of k).files.tables)
   pub living : k.living ≡ length (numbered 0 (value_of k).files.tables)
-  pub quiet : AreQuiet k.store.objects

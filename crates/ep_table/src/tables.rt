@@ -238,7 +238,8 @@ impl<A: Allocator> Tables<A> {
         ensures ok { IfOk result
             (λ answer. Does (one_of self.old.limits self.old.files pid.0 object cloexec) answer
             self.old self.new) }
-        ensures told { OnOk result (IsTold (one_of self.old.limits self.old.files pid.0 object cloexec) self.new) }
+        ensures told { OnOk result
+            (IsTold (one_of self.old.limits self.old.files pid.0 object cloexec) self.new) }
         ensures last { OnErr result
             (first (one_refusals self.old.limits self.old.files pid.0) ≡ None) }
         ensures err { OnErr result (self.new ≡ self.old) }
@@ -261,7 +262,8 @@ impl<A: Allocator> Tables<A> {
         ensures ok { IfOk result
             (λ answer. Does (two_of self.old.limits self.old.files pid.0 object cloexec) answer
             self.old self.new) }
-        ensures told { OnOk result (IsTold (two_of self.old.limits self.old.files pid.0 object cloexec) self.new) }
+        ensures told { OnOk result
+            (IsTold (two_of self.old.limits self.old.files pid.0 object cloexec) self.new) }
         ensures err { OnErr result (self.new ≡ self.old) }
     {
         let first = lowest(&self.processes, pid);
@@ -281,7 +283,8 @@ impl<A: Allocator> Tables<A> {
         ensures ok { IfOk result
             (λ answer. Does (pipe_of self.old.limits self.old.files pid.0 cloexec) answer self.old
             self.new) }
-        ensures told { OnOk result (IsTold (pipe_of self.old.limits self.old.files pid.0 cloexec) self.new) }
+        ensures told { OnOk result
+            (IsTold (pipe_of self.old.limits self.old.files pid.0 cloexec) self.new) }
         ensures last { OnErr result
             (first (two_refusals self.old.limits self.old.files pid.0) ≡ None) }
         ensures err { OnErr result (self.new ≡ self.old) }
@@ -306,7 +309,8 @@ impl<A: Allocator> Tables<A> {
         ensures ok { IfOk result
             (λ answer. Does (socketpair_of self.old.limits self.old.files pid.0 cloexec) answer
             self.old self.new) }
-        ensures told { OnOk result (IsTold (socketpair_of self.old.limits self.old.files pid.0 cloexec) self.new) }
+        ensures told { OnOk result
+            (IsTold (socketpair_of self.old.limits self.old.files pid.0 cloexec) self.new) }
         ensures last { OnErr result
             (first (two_refusals self.old.limits self.old.files pid.0) ≡ None) }
         ensures err { OnErr result (self.new ≡ self.old) }
@@ -363,7 +367,8 @@ impl<A: Allocator> Tables<A> {
         ensures ok { IfOk result
             (λ answer. Does (dup_of self.old.limits self.old.files pid.0 fd.0) answer self.old
             self.new) }
-        ensures told { OnOk result (IsTold (dup_of self.old.limits self.old.files pid.0 fd.0) self.new) }
+        ensures told { OnOk result
+            (IsTold (dup_of self.old.limits self.old.files pid.0 fd.0) self.new) }
         ensures last { OnErr result
             (first (dup_of self.old.limits self.old.files pid.0 fd.0).refusals ≡ None) }
         ensures err { OnErr result (self.new ≡ self.old) }
@@ -431,7 +436,8 @@ impl<A: Allocator> Tables<A> {
         ensures ok { IfOk result
             (λ answer. Does (dup2_of self.old.limits self.old.files pid.0 fd.0 to.0) answer self.old
             self.new) }
-        ensures told { OnOk result (IsTold (dup2_of self.old.limits self.old.files pid.0 fd.0 to.0) self.new) }
+        ensures told { OnOk result
+            (IsTold (dup2_of self.old.limits self.old.files pid.0 fd.0 to.0) self.new) }
         ensures last { OnErr result
             (first (dup2_of self.old.limits self.old.files pid.0 fd.0 to.0).refusals ≡ None) }
         ensures err { OnErr result (self.new ≡ self.old) }
@@ -481,7 +487,8 @@ impl<A: Allocator> Tables<A> {
         ensures ok { IfOk result
             (λ answer. Does (fork_of self.old.limits self.old.files pid.0) answer self.old
             self.new) }
-        ensures told { OnOk result (IsTold (fork_of self.old.limits self.old.files pid.0) self.new) }
+        ensures told { OnOk result
+            (IsTold (fork_of self.old.limits self.old.files pid.0) self.new) }
         ensures last { OnErr result
             (first (fork_of self.old.limits self.old.files pid.0).refusals ≡ None) }
         ensures err { OnErr result (self.new ≡ self.old) }

@@ -9,8 +9,11 @@ use Rattle.ep_machine.specs.Tables.{exit}
 use Rattle.ep_table.proofs.LeavesLemmas.{does_leaving}
 use Rattle.ep_calls.proofs.table_call.exit.Goals as goal
 
-pub returns : goal.returns
-returns c =
+pub returns-clause-does : goal.returns-clause-does
+returns-clause-does c =
     let v = c.args.tables.now in
     let free = ap (λ (b : Bool). first ((b, Ebusy) ∷ [])) (sym c.any_of.ensures ∙ c.if-any_of.false) in
     does_leaving (exit_of v.files c.args.pid.0 (list_any (is_of c.args.pid.0) c.args.waiters.now)).refusals Done Done (exit v.files c.args.pid.0) v c.exit.new.self free refl c.exit.ensures
+
+pub returns-clause-told : goal.returns-clause-told
+returns-clause-told c = λ _. c.exit.ensures.told

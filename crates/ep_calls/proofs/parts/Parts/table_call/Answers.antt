@@ -2,11 +2,11 @@ use Rattle.std.specs.List.{list_any}
 use Rattle.ep_park.specs.Waiters.{is_of}
 use Rattle.ep_view.proofs.AtRestLemmas.{extends_call}
 use Rattle.ep_calls.specs.Parts.{Parts}
-use Rattle.ep_calls.specs.TableCall.{called}
+use Rattle.ep_calls.specs.TableCall.{called, raised_by}
 use Rattle.ep_calls.proofs.FilesCallLemmas.{does_holds, does_keys, does_kinds}
 use Rattle.ep_calls.proofs.PartsLemmas.{coherent_kept}
 use Rattle.ep_calls.proofs.TableCallLemmas.{table_does}
-use Rattle.std.proofs.Common.{subst, sym}
+use Rattle.std.proofs.Common.{ap, subst, sym, ◌∙◌}
 use Rattle.ep_base.specs.declared.answer.Answer.{Answer}
 use Rattle.ep_table.specs.Value.{Does}
 use Rattle.ep_calls.proofs.parts.Parts.table_call.Goals as goal
@@ -32,4 +32,5 @@ returns-clause-ok c =
     let call = called k.tables k.waiters c.args.pid.0 c.args.call.now in
     let o = c.settled.ensures in
     let does = subst (λ (a : Answer). Does call a k.tables new) (sym o.answer) c.in_ok-answer.ensures.ok in
-    rw (← c.self.view_is) (table_does p new c.args.pid.0 c.args.call.now c.settled.result c.self.invariant c.requires.call does o.picked o.raising)
+    let raising = o.raising ∙ (c.raising_by-raising.ensures ∙ ap raised_by (sym o.answer)) in
+    rw (← c.self.view_is) (table_does p new c.args.pid.0 c.args.call.now c.settled.result c.self.invariant c.requires.call does c.in_ok-answer.ensures.told o.picked raising)

@@ -25,7 +25,7 @@ finds g c = search rules
 pub invariant_of-self-2 : goal.invariant_of-self-2
 invariant_of-self-2 g c =
     let f = fits_accepted c.self.inside c.accept.new.self (lists c.enter.new.processes.items) c.args.pid.0 c.args.found c.in_ok-description.description c.args.cloexec c.self.invariant c.known.ensures (there g c) (lives g c) (finds g c) c.in_ok-description.ensures.ok (written g c) in
-    record { live = f.live; counts = f.counts; living = f.living; quiet = f.quiet }
+    record { live = f.live; counts = f.counts; living = f.living }
 
 pub returns-clause-ok : goal.returns-clause-ok
 returns-clause-ok g c = accepts_at c.self.inside c.accept.new.self (lists c.enter.new.processes.items) c.args.pid.0 c.args.found c.in_ok-description.description c.args.cloexec c.self.invariant c.known.ensures (there g c) (lives g c) (finds g c) c.in_ok-description.ensures.ok (written g c) c.args.self.now c.self.view_is

@@ -27,7 +27,7 @@ renames g c =
     renames_dup k c.args.self.now c.self.invariant c.self.view_is c.args.pid.0 c.requires.process (lists c.enter.new.processes.items) c.add_name.new.self (record { description = c.args.description; cloexec = false }) live some written c.add_name.ensures
 
 pub invariant_of-self-2 : goal.invariant_of-self-2
-invariant_of-self-2 g c = let f = (renames g c).fits in record { live = f.live; counts = f.counts; living = f.living; quiet = f.quiet }
+invariant_of-self-2 g c = let f = (renames g c).fits in record { live = f.live; counts = f.counts; living = f.living }
 
 pub returns-clause-ok : goal.returns-clause-ok
 returns-clause-ok g c = (renames g c).value ∙ (λ i. record c.args.self.now {

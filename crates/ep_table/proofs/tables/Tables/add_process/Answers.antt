@@ -34,7 +34,7 @@ invariant_of-self-in-Some g c =
     let e : c.push_reserved.new.self.items ≡ c.self.inside.processes.items ++ Some c.in_ok-copy.copy ∷ [] = c.push_reserved.ensures.items ∙ ap (λ (xs : List (Option (Table g.row.A.Denot))). xs ++ Some c.in_ok-copy.copy ∷ []) c.in_ok-reserve.ensures.items in
     let h : items_of (Some c.in_ok-copy.copy) ≡ process_of c.self.inside.processes.items c.args.pid.0 = ap (λ (r : List (Option Descriptor)). Some r) c.in_ok-copy.ensures ∙ ap items_of at in
     let f = fits_forked c.self.inside c.args.self.now c.self.invariant c.self.view_is c.args.pid.0 u is c.push_reserved.new.self.items (Some c.in_ok-copy.copy) e h c.add_names.new.store c.add_names.ensures in
-    record { live = f.live; counts = f.counts; living = f.living; quiet = f.quiet }
+    record { live = f.live; counts = f.counts; living = f.living }
 
 pub returns-in_ok-reserve-clause-ok : goal.returns-in_ok-reserve-clause-ok
 returns-in_ok-reserve-clause-ok g c =

@@ -1,4 +1,4 @@
-use Rattle.ep_table.proofs.ApplyLemmas.{ok_same, quiet_after, still_tables, value_applied}
+use Rattle.ep_table.proofs.ApplyLemmas.{ok_same, still_tables, value_applied}
 use Rattle.ep_table.proofs.tables.Tables.apply.Goals as goal
 use Rattle.ep_table.specs.Value.{objects_after}
 
@@ -9,4 +9,4 @@ returns-clause-files g c =
 pub invariant_of-self : goal.invariant_of-self
 invariant_of-self g c =
     let v = c.self.inside.store in
-    still_tables c.self.inside c.apply.result c.apply.new.self (objects_after v c.args.desc c.args.now c.args.call.now) (quiet_after v c.args.desc c.args.now c.args.call.now c.self.invariant.quiet) c.self.invariant c.apply.ensures.objects c.apply.ensures.err
+    still_tables c.self.inside c.apply.result c.apply.new.self (objects_after v c.args.desc c.args.now c.args.call.now) c.self.invariant c.apply.ensures.objects c.apply.ensures.err

@@ -1,6 +1,6 @@
 use Rattle.std.proofs.Common.{IfOk, None, OnErr, subst, ◌≡◌, ℕ}
 use Rattle.ep_machine.specs.Effect.{first}
-use Rattle.ep_table.proofs.ApplyLemmas.{ok_same, quiet_after, still_tables, value_applied}
+use Rattle.ep_table.proofs.ApplyLemmas.{ok_same, still_tables, value_applied}
 use Rattle.ep_table.proofs.tables.Tables.apply_naming.Goals as goal
 use Rattle.ep_table.specs.Value.{Seen, effect_under, number_of, objects_after, refusals_at}
 
@@ -20,5 +20,5 @@ returns-clause-last g c = subst (λ (v : Seen). OnErr c.apply_naming.result ((no
 pub invariant_of-self : goal.invariant_of-self
 invariant_of-self g c =
     let v = c.self.inside.store in
-    still_tables c.self.inside c.apply_naming.result c.apply_naming.new.self (objects_after v c.args.desc 0 c.args.call.now) (quiet_after v c.args.desc 0 c.args.call.now c.self.invariant.quiet) c.self.invariant
+    still_tables c.self.inside c.apply_naming.result c.apply_naming.new.self (objects_after v c.args.desc 0 c.args.call.now) c.self.invariant
     (ok_same c.apply_naming.result _ _ (λ h. h 0) c.apply_naming.ensures.objects) c.apply_naming.ensures.err

@@ -28,7 +28,7 @@ invariant_of-self g c =
     let is : Some c.deref-in-Some.result.now ≡ get_or (lists c.self.inside.processes.items) c.args.pid.0 None = ap (λ (t : List (Option Descriptor)). Some t) c.deref-in-Some.ensures.value ∙ (ap items_of at ∙ sym (lists_at c.self.inside.processes.items c.args.pid.0)) in
     let written = lists_entered kept_in c.self.inside.processes.items c.self.inside.processes.items c.close_flagged.new.processes.items c.args.pid.0 refl c.close_flagged.ensures in
     let f = (renames_exec c.self.inside c.args.self.now c.self.invariant c.self.view_is c.args.pid.0 c.requires (lists c.close_flagged.new.processes.items) c.drop_names.new.store c.deref-in-Some.result.now is c.drop_names.ensures written).fits in
-    record { live = f.live; counts = f.counts; living = f.living; quiet = f.quiet }
+    record { live = f.live; counts = f.counts; living = f.living }
 
 pub returns-in-Some : goal.returns-in-Some
 returns-in-Some g c =

@@ -39,7 +39,7 @@ invariant_of-self g c =
     let keys = c.self.inside.store.keys in
     let l = subst (λ (u : List (Option Descriptor)). Lowers c.self.inside.store c.drop_names.new.store (numbers keys u)) (exit_same keys t) c.drop_names.ensures in
     let f = fits_ended c.self.inside c.self.invariant c.args.pid.0 t is c.drop_names.new.store l (lists c.end.new.processes.items) c.end.ensures in
-    record { live = f.live; counts = f.counts; living = f.living; quiet = f.quiet }
+    record { live = f.live; counts = f.counts; living = f.living }
 
 pub returns-in-Some : goal.returns-in-Some
 returns-in-Some g c =

@@ -59,7 +59,7 @@ invariant_of-self-in-Some g c =
     let at = old_slot k v c.self.invariant c.self.view_is c.args.pid.0 c.requires.process (lists c.put.new.processes.items) c.drop_name.new.self c.args.number (Some c.in-Some.replaced) found in
     let more = more_replaced k c.self.invariant c.args.pid.0 (subst (λ (w : Seen). IsSome (table_of w.files c.args.pid.0)) (sym c.self.view_is) c.requires.process) c.args.number (thing_number k.store c.args.description) some c.add_name.new.self c.in-Some.replaced at (live_replaced k c.self.invariant c.args.pid.0 c.args.number c.in-Some.replaced found) c.add_name.ensures in
     let r = renames_replaced k v c.self.invariant c.self.view_is c.args.pid.0 c.requires.process (lists c.put.new.processes.items) c.drop_name.new.self c.args.number x live some written c.add_name.new.self c.add_name.ensures c.in-Some.replaced at more c.drop_name.ensures in
-    record { live = r.fits.live; counts = r.fits.counts; living = r.fits.living; quiet = r.fits.quiet }
+    record { live = r.fits.live; counts = r.fits.counts; living = r.fits.living }
 
 pub invariant_of-self-in_default : goal.invariant_of-self-in_default
 invariant_of-self-in_default g c =
@@ -72,7 +72,7 @@ invariant_of-self-in_default g c =
     let written = lists_entered (λ (p : Process). put_at p c.args.number x) k.processes.items k.processes.items c.put.new.processes.items c.args.pid.0 refl c.in_ok-put.ensures.ok in
     let at = old_slot k v c.self.invariant c.self.view_is c.args.pid.0 c.requires.process (lists c.put.new.processes.items) c.add_name.new.self c.args.number None found in
     let r = renames_free k v c.self.invariant c.self.view_is c.args.pid.0 c.requires.process (lists c.put.new.processes.items) c.add_name.new.self c.args.number x live some written c.add_name.new.self c.add_name.ensures at refl in
-    record { live = r.fits.live; counts = r.fits.counts; living = r.fits.living; quiet = r.fits.quiet }
+    record { live = r.fits.live; counts = r.fits.counts; living = r.fits.living }
 
 pub returns-in-Some-clause-ok : goal.returns-in-Some-clause-ok
 returns-in-Some-clause-ok g c =

@@ -36,7 +36,7 @@ renames g c =
     (at k v c.args.pid.0 c.args.number c.args.description c.self.view_is c.requires.named c.requires.live) (some k v c.self.invariant c.args.pid.0 c.args.number c.args.description c.self.view_is c.requires.process c.requires.named c.requires.live) written c.drop_name.ensures
 
 pub invariant_of-self : goal.invariant_of-self
-invariant_of-self g c = let f = (renames g c).fits in record { live = f.live; counts = f.counts; living = f.living; quiet = f.quiet }
+invariant_of-self g c = let f = (renames g c).fits in record { live = f.live; counts = f.counts; living = f.living }
 
 pub returns : goal.returns
 returns g c = (renames g c).value
