@@ -47,12 +47,13 @@ fn sizes(tables: &Tables<&LocalHeap>) -> (usize, usize, usize) {
     (live, taken.count(), processes.count())
 }
 
-// Whether a description can be held.
-fn is_held(tables: &mut Tables<&LocalHeap>) -> bool {
-    match tables.lookup(Pid(1), Fd(0)) {
-        Some(desc) => tables.hold(desc).is_ok(),
-        None => false,
-    }
+// Whether another instance can be held, or `None` where there is no memory for one.
+fn is_held(tables: &mut Tables<&LocalHeap>) -> Option<bool> {
+    let Ok(Answer::Num(fd)) = tables.create(Pid(1), false, Object::instance()) else {
+        return None;
+    };
+    let desc = tables.lookup(Pid(1), Fd(fd as i32))?;
+    Some(tables.hold(desc).is_ok())
 }
 
 // Whether the tables answer as before the first of 16 calls in a row that is refused its memory, or
@@ -78,9 +79,10 @@ fn is_refused(
     let Ok(mut tables) = Tables::new_in(&heap, rt.alloc(), Limits::default()) else {
         return Ok(false);
     };
-    assert!(rt; is_held(&mut tables));
     let kept = first_refusal(&mut tables, rt.alloc(), growth);
     assert!(rt; kept != Some(false));
+    let held = is_held(&mut tables);
+    assert!(rt; held == Some(true) || (held.is_none() && kept.is_some()));
     Ok(kept.is_some())
 }
 
